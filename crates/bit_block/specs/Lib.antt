@@ -1,0 +1,4 @@
+pub mod Bit
+pub mod Ranges
+pub mod Widths
+pub mod Raised
