@@ -1,0 +1,168 @@
+// Four layers over two sources of any kind, held by value. Each is a source itself, so layers stand on layers.
+ghost use mathlib.Core.Path.{_≡_};
+ghost use mathlib.Core.Bool.{Bool, true, false, not, _&&_, _||_};
+ghost use Prim.Native.Nat.{ℕ};
+ghost use denote.Ref.{now};
+ghost use Rattle.bit_block.specs.Raised.{raised};
+ghost use Rattle.bit_block.specs.Bit.{exclusive};
+ghost use Rattle.bit_block.specs.Widths.{live};
+ghost use Rattle.bitset_interface.specs.Source.{Source, Lawful, holds, both, either, without, oneOf};
+ghost use Rattle.bitset_interface.specs.Layers.{both-lawful, either-lawful, without-lawful, oneOf-lawful};
+use bit_block::config::common;
+use bit_block::config::Config;
+use bit_block::mask::Mask;
+use crate::LevelMasks;
+
+#[derive(Drop)]
+pub struct Both<A, B>(pub A, pub B);
+
+pub impl<A: LevelMasks, B: LevelMasks> LevelMasks for Both<A, B> as BothMasks {
+    ghost means = { λ s. both (A·LevelMasks .means (s .0)) (B·LevelMasks .means (s .1)) };
+
+    ghost lawful = { λ s. both-lawful (A·LevelMasks .means (s .0)) (B·LevelMasks .means (s .1)) (A·LevelMasks .lawful (s .0)) (B·LevelMasks .lawful (s .1)) };
+
+    fn config(&self) -> Option<Config> {
+        common(self.0.config(), self.1.config())
+    }
+
+    fn trusted(&self) -> bool {
+        false
+    }
+
+    fn level0_mask(&self) -> Mask {
+        match self.config() {
+            None => Mask::zero(),
+            Some(_) => self.0.level0_mask().and(self.1.level0_mask()),
+        }
+    }
+
+    fn level1_mask(&self, i: usize) -> Mask {
+        match self.config() {
+            None => Mask::zero(),
+            Some(_) => self.0.level1_mask(i).and(self.1.level1_mask(i)),
+        }
+    }
+
+    fn data_mask(&self, i: usize, j: usize) -> Mask {
+        match self.config() {
+            None => Mask::zero(),
+            Some(_) => self.0.data_mask(i, j).and(self.1.data_mask(i, j)),
+        }
+    }
+}
+
+#[derive(Drop)]
+pub struct Either<A, B>(pub A, pub B);
+
+pub impl<A: LevelMasks, B: LevelMasks> LevelMasks for Either<A, B> as EitherMasks {
+    ghost means = { λ s. either (A·LevelMasks .means (s .0)) (B·LevelMasks .means (s .1)) };
+
+    ghost lawful = { λ s. either-lawful (A·LevelMasks .means (s .0)) (B·LevelMasks .means (s .1)) (A·LevelMasks .lawful (s .0)) (B·LevelMasks .lawful (s .1)) };
+
+    fn config(&self) -> Option<Config> {
+        common(self.0.config(), self.1.config())
+    }
+
+    fn trusted(&self) -> bool {
+        self.config().is_some() && self.0.trusted() && self.1.trusted()
+    }
+
+    fn level0_mask(&self) -> Mask {
+        match self.config() {
+            None => Mask::zero(),
+            Some(_) => self.0.level0_mask().or(self.1.level0_mask()),
+        }
+    }
+
+    fn level1_mask(&self, i: usize) -> Mask {
+        match self.config() {
+            None => Mask::zero(),
+            Some(_) => self.0.level1_mask(i).or(self.1.level1_mask(i)),
+        }
+    }
+
+    fn data_mask(&self, i: usize, j: usize) -> Mask {
+        match self.config() {
+            None => Mask::zero(),
+            Some(_) => self.0.data_mask(i, j).or(self.1.data_mask(i, j)),
+        }
+    }
+}
+
+#[derive(Drop)]
+pub struct Without<A, B>(pub A, pub B);
+
+pub impl<A: LevelMasks, B: LevelMasks> LevelMasks for Without<A, B> as WithoutMasks {
+    ghost means = { λ s. without (A·LevelMasks .means (s .0)) (B·LevelMasks .means (s .1)) };
+
+    ghost lawful = { λ s. without-lawful (A·LevelMasks .means (s .0)) (B·LevelMasks .means (s .1)) (A·LevelMasks .lawful (s .0)) (B·LevelMasks .lawful (s .1)) };
+
+    fn config(&self) -> Option<Config> {
+        common(self.0.config(), self.1.config())
+    }
+
+    fn trusted(&self) -> bool {
+        false
+    }
+
+    fn level0_mask(&self) -> Mask {
+        match self.config() {
+            None => Mask::zero(),
+            Some(_) => self.0.level0_mask(),
+        }
+    }
+
+    fn level1_mask(&self, i: usize) -> Mask {
+        match self.config() {
+            None => Mask::zero(),
+            Some(_) => self.0.level1_mask(i),
+        }
+    }
+
+    fn data_mask(&self, i: usize, j: usize) -> Mask {
+        match self.config() {
+            None => Mask::zero(),
+            Some(_) => self.0.data_mask(i, j).without(self.1.data_mask(i, j)),
+        }
+    }
+}
+
+#[derive(Drop)]
+pub struct OneOf<A, B>(pub A, pub B);
+
+pub impl<A: LevelMasks, B: LevelMasks> LevelMasks for OneOf<A, B> as OneOfMasks {
+    ghost means = { λ s. oneOf (A·LevelMasks .means (s .0)) (B·LevelMasks .means (s .1)) };
+
+    ghost lawful = { λ s. oneOf-lawful (A·LevelMasks .means (s .0)) (B·LevelMasks .means (s .1)) (A·LevelMasks .lawful (s .0)) (B·LevelMasks .lawful (s .1)) };
+
+    fn config(&self) -> Option<Config> {
+        common(self.0.config(), self.1.config())
+    }
+
+    fn trusted(&self) -> bool {
+        false
+    }
+
+    fn level0_mask(&self) -> Mask {
+        match self.config() {
+            None => Mask::zero(),
+            Some(_) => self.0.level0_mask().or(self.1.level0_mask()),
+        }
+    }
+
+    fn level1_mask(&self, i: usize) -> Mask {
+        match self.config() {
+            None => Mask::zero(),
+            Some(_) => self.0.level1_mask(i).or(self.1.level1_mask(i)),
+        }
+    }
+
+    fn data_mask(&self, i: usize, j: usize) -> Mask {
+        match self.config() {
+            None => Mask::zero(),
+            Some(_) => self.0.data_mask(i, j).xor(self.1.data_mask(i, j)),
+        }
+    }
+}
+
+

@@ -1,0 +1,76 @@
+// The maximal runs of positions that a source holds.
+ghost use mathlib.Core.Path.{_≡_};
+ghost use mathlib.Core.Bool.{Bool, true, false, cond, _||_};
+ghost use Prim.Native.Nat.{ℕ, _≤_, _<_};
+ghost use lib.Dec.{leb};
+ghost use lib.ListN.{length};
+ghost use denote.Ref.{now, name};
+ghost use Rattle.bit_block.specs.Ranges.{count};
+ghost use Rattle.bit_block.specs.Widths.{capacity};
+ghost use Rattle.bitset_interface.specs.Source.{Source, holds};
+ghost use Rattle.bitset_interface.specs.Drafts.{stored, fitting};
+ghost use Rattle.bitset_interface.specs.Refusals.{refusal, unless, badRange};
+ghost use Rattle.certificate.specs.Runs.{RunFrom, Added};
+use bitset_interface::LevelMasks;
+use bitset_interface::draft::Draft;
+use bitset_interface::draft::DraftError;
+use bitset_interface::draft::DraftMasks;
+use bitset_interface::RefMasks;
+use bitset_interface::walk::next_from;
+use crate::complement::Complement;
+use crate::complement::ComplementMasks;
+
+// The positions from..to, at least one.
+#[derive(Clone, Copy, PartialEq, Eq, Debug)]
+pub struct Run {
+    pub from: usize,
+    pub to: usize,
+}
+
+// The first run that the source holds at or above p.
+pub fn next_run<S: LevelMasks>(s: &S, p: usize) -> Option<Run>
+    ensures { λ r. ⌜ RunFrom (holds (S·LevelMasks .means (now (s .entry)))) p r ⌝ }
+{
+    let from = next_from(s, p)?;
+    let to = match next_from(&Complement(s), from) {
+        Some(gap) => gap,
+        None => capacity_of(s),
+    };
+    Some(Run { from, to })
+}
+
+// How many positions the configuration has; none where the source is void.
+pub fn capacity_of<S: LevelMasks>(s: &S) -> usize
+    ensures { λ r. ⌜ r ≡ capacity (S·LevelMasks .means (now (s .entry)) .conf) ⌝ }
+{
+    match s.config() {
+        None => 0,
+        Some(c) => c.capacity(),
+    }
+}
+
+// How many positions the source holds.
+pub fn count_held<S: LevelMasks>(s: &S) -> usize
+    ensures { λ r. ⌜ r ≡ count (holds (S·LevelMasks .means (now (s .entry)))) (capacity (S·LevelMasks .means (now (s .entry)) .conf)) ⌝ }
+{
+    let mut held = 0;
+    let mut at = 0;
+    while let Some(run) = next_run(s, at) {
+        held += run.to - run.from;
+        at = run.to;
+    }
+    held
+}
+
+// Marks in the draft every position that the source holds; refused, with nothing marked, where the draft has fewer positions than the source.
+pub fn mark_all<S: LevelMasks>(s: &S, draft: &mut Draft<'_>) -> Result<(), DraftError> {
+    if capacity_of(s) > capacity_of(draft) {
+        return Err(DraftError::BadRange);
+    }
+    let mut at = 0;
+    while let Some(run) = next_run(s, at) {
+        draft.mark(run.from, run.to)?;
+        at = run.to;
+    }
+    Ok(())
+}
