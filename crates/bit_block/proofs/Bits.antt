@@ -130,16 +130,19 @@ lowest (suc k) n p h =
     lowest-under n k (n % 2) (trailingZeros k (n / 2)) refl
     (λ e. lowest k (n / 2) (omega arith) (shr-below n k 1 (subst (λ (x : ℕ). n < 2 ^ x) (sym (add-one k)) h)))
 
--- each bit below 64 of 2 ^ 64 - 1 is raised
-pub bit-ones : (k : ℕ) → k < 64 → bitOf (2 ^ 64 - 1) k ≡ true
-bit-ones k h =
-    let j : ℕ = 63 - k in
-    let e : 64 ≡ suc j + k = omega arith in
-    let s : (2 ^ 64 - 1) / 2 ^ k ≡ 2 ^ suc j - 1 =
+-- each bit below n of 2 ^ n - 1 is raised
+pub bit-all : (n k : ℕ) → k < n → bitOf (2 ^ n - 1) k ≡ true
+bit-all n k h =
+    let j : ℕ = n - suc k in
+    let e : n ≡ suc j + k = omega arith in
+    let s : (2 ^ n - 1) / 2 ^ k ≡ 2 ^ suc j - 1 =
         ap (λ (x : ℕ). (2 ^ x - 1) / 2 ^ k) e
         ∙ (ap (λ (x : ℕ). x / 2 ^ k) (ones-split (suc j) k) ∙ high (2 ^ suc j - 1) k (ones-lt k)) in
     let o : (2 ^ suc j - 1) % 2 ≡ 1 = omega (arith, pow-suc 2 j, pow-pos j) in
     ap (λ (x : ℕ). eqb (x % 2) 1) s ∙ eq-eqb ((2 ^ suc j - 1) % 2) 1 o
+
+pub bit-ones : (k : ℕ) → k < 64 → bitOf (2 ^ 64 - 1) k ≡ true
+bit-ones k h = bit-all 64 k h
 
 flips : (x : Bool) → exclusive x true ≡ not x
 flips true = refl

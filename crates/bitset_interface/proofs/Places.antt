@@ -27,7 +27,7 @@ digit v t r p h =
     (cases-lt (t / v) (r / v))
 
 module _ (w v : ℕ) (pw : 0 < w) (pv : 0 < v) where
-  low : (t : ℕ) → t % (w * v) % v ≡ t % v
+  pub low : (t : ℕ) → t % (w * v) % v ≡ t % v
   low t =
       let e : t / (w * v) * w * v + t % (w * v) ≡ t = ap (λ (x : ℕ). x + t % (w * v)) (mul-assoc (t / (w * v)) w v) ∙ div-add-mod' t (w * v) in
       sym (mul-add-mod-self-right (t / (w * v) * w) v (t % (w * v))) ∙ ap (λ (x : ℕ). x % v) e

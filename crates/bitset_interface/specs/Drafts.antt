@@ -6,13 +6,13 @@ use mathlib.Core.List.{List, _++_}
 use mathlib.Core.Logic.{_⊎_}
 use lib.Dec.{ltb, leb}
 use lib.ListN.{length, getD, drop, replicate}
-use Rattle.std.proofs.shelf.Tests.{and-parts, ltb-true, false≢true}
 use Rattle.std.specs.declared.option.Option.{Option}
 use Rattle.std.specs.declared.option.Option.the-variants.{Some, None}
 use Rattle.bit_block.specs.Bit.{bitOf}
 use Rattle.bit_block.specs.declared.config.Config.{Config}
-use Rattle.bit_block.specs.Widths.{w0, w1, wd, capacity}
+use Rattle.bit_block.specs.Widths.{w1, wd, capacity}
 use Rattle.bitset_interface.specs.Source.{Source, Lawful}
+use Rattle.bitset_interface.specs.Spread.{spread, spread-lawful}
 
 -- the bit of position p in words: bit p mod 64 of word p div 64
 unfoldable pub stored : List ℕ → ℕ → Bool
@@ -30,29 +30,16 @@ fitting c n = cond (leb (draftWords c) n) (Some c) None
 abbrev pub position : Option Config → ℕ → ℕ → ℕ → ℕ
 position o i j k = i * (w1 o * wd o) + (j * wd o + k)
 
+-- words as a source: the bit of each position
 abbrev pub marked : Option Config → List ℕ → Source
-marked o xs = record {
-    conf = o;
-    trust = false;
-    up0 = λ i. ltb i (w0 o);
-    up1 = λ i j. ltb i (w0 o) && ltb j (w1 o);
-    up2 = λ i j k. (ltb i (w0 o) && ltb j (w1 o)) && (ltb k (wd o) && stored xs (position o i j k))
-  }
+marked o xs = spread o (λ i j k. stored xs (position o i j k))
 
 -- a draft of a configuration over words
 abbrev pub draft : Config → List ℕ → Source
 draft c xs = marked (fitting c (length xs)) xs
 
-pub marked-lawful : (o : Option Config) (xs : List ℕ) → Lawful (marked o xs)
-marked-lawful o xs = record {
-    below0 = λ i e. ltb-true i (w0 o) e;
-    below1 = λ i j e. ltb-true j (w1 o) (and-parts (ltb i (w0 o)) (ltb j (w1 o)) e .1);
-    below2 = λ i j k e. ltb-true k (wd o) (and-parts (ltb k (wd o)) (stored xs (position o i j k)) (and-parts (ltb i (w0 o) && ltb j (w1 o)) (ltb k (wd o) && stored xs (position o i j k)) e .1) .0);
-    under1 = λ i j e. and-parts (ltb i (w0 o)) (ltb j (w1 o)) e .0;
-    under2 = λ i j k e. and-parts (ltb i (w0 o) && ltb j (w1 o)) (ltb k (wd o) && stored xs (position o i j k)) e .0;
-    full0 = λ i t e. absurd (false≢true t);
-    full1 = λ i j t e. absurd (false≢true t)
-  }
+pub draft-lawful : (c : Config) (xs : List ℕ) → Lawful (draft c xs)
+draft-lawful c xs = spread-lawful (fitting c (length xs)) (λ i j k. stored xs (position (fitting c (length xs)) i j k))
 
 -- the words of a new draft: its own are zero, those behind it are left; too few are all left
 abbrev pub cleared : Config → List ℕ → List ℕ

@@ -1,6 +1,7 @@
-pub mod Refusals
-pub mod Drafts
 pub mod Source
 pub mod Shares
 pub mod Layers
 pub mod Lex
+pub mod Spread
+pub mod Drafts
+pub mod Refusals

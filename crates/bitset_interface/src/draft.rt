@@ -9,12 +9,15 @@ ghost use Rattle.bit_block.specs.Bit.{bitOf};
 ghost use Rattle.bit_block.specs.Raised.{raised};
 ghost use Rattle.bit_block.specs.Widths.{bits, capacity};
 ghost use Rattle.bitset_interface.specs.Source.{Source, Lawful};
-ghost use Rattle.bitset_interface.specs.Drafts.{stored, draftWords, fitting, draft, marked-lawful, cleared, Spanned, Sets, goodRange};
+ghost use Rattle.bitset_interface.specs.Drafts.{stored, draftWords, fitting, draft, draft-lawful, cleared, Spanned, Sets, goodRange};
 ghost use Rattle.bitset_interface.specs.Refusals.{refusal, unless, badRange, noWords};
 use bit_block::config::Config;
 use bit_block::config::Width;
 use bit_block::mask::Mask;
 use crate::LevelMasks;
+use crate::spread::every_level0;
+use crate::spread::every_level1;
+use crate::walk::capacity_of;
 
 // Why a draft declines a call.
 #[derive(Clone, Copy, PartialEq, Eq, Debug)]
@@ -64,7 +67,7 @@ fn block(words: &[u64], base: usize, width: Width) -> Mask
 pub impl<'a> LevelMasks for DraftView<'a> as DraftViewMasks {
     ghost means = { λ s. draft (s .config) (now (s .words)) };
 
-    ghost lawful = { λ s. marked-lawful (fitting (s .config) (length (now (s .words)))) (now (s .words)) };
+    ghost lawful = { λ s. draft-lawful (s .config) (now (s .words)) };
 
     fn config(&self) -> Option<Config> {
         if words_needed(self.config) <= self.words.len() { Some(self.config) } else { None }
@@ -75,17 +78,11 @@ pub impl<'a> LevelMasks for DraftView<'a> as DraftViewMasks {
     }
 
     fn level0_mask(&self) -> Mask {
-        match self.config() {
-            None => Mask::zero(),
-            Some(c) => Mask::full(c.level0),
-        }
+        every_level0(self.config())
     }
 
     fn level1_mask(&self, i: usize) -> Mask {
-        match self.config() {
-            None => Mask::zero(),
-            Some(c) => if i < c.level0.bits() { Mask::full(c.level1) } else { Mask::zero() },
-        }
+        every_level1(self.config(), i)
     }
 
     fn data_mask(&self, i: usize, j: usize) -> Mask {
@@ -188,11 +185,8 @@ impl<'a> Draft<'a> {
         ensures config { λ r. ⌜ now (self .exit) .config ≡ now (self .entry) .config ⌝ }
         ensures lender { λ r. ⌜ name (now (self .exit) .words) ≡ name (now (self .entry) .words) ⌝ }
     {
-        let capacity = match self.view().config() {
-            None => 0,
-            Some(c) => c.capacity(),
-        };
-        if from > to || to > capacity {
+        let end = capacity_of(&self.view());
+        if from > to || to > end {
             return Err(DraftError::BadRange);
         }
         write_span(self.words, from, to, on);
@@ -223,7 +217,7 @@ impl<'a> Draft<'a> {
 pub impl<'a> LevelMasks for Draft<'a> as DraftMasks {
     ghost means = { λ s. draft (s .config) (now (s .words)) };
 
-    ghost lawful = { λ s. marked-lawful (fitting (s .config) (length (now (s .words)))) (now (s .words)) };
+    ghost lawful = { λ s. draft-lawful (s .config) (now (s .words)) };
 
     fn config(&self) -> Option<Config> {
         self.view().config()

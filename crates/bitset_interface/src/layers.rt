@@ -13,8 +13,19 @@ use bit_block::config::Config;
 use bit_block::mask::Mask;
 use crate::LevelMasks;
 
+// The positions in both.
 #[derive(Drop)]
 pub struct Both<A, B>(pub A, pub B);
+
+impl<A: LevelMasks, B: LevelMasks> Both<A, B> {
+    pub fn new(a: A, b: B) -> Both<A, B>
+        ensures first { λ r. ⌜ r .0 ≡ a ⌝ }
+        ensures second { λ r. ⌜ r .1 ≡ b ⌝ }
+        ensures held { λ r. ⌜ ((p : ℕ) → holds (both (A·LevelMasks .means a) (B·LevelMasks .means b)) p ≡ (live (A·LevelMasks .means a .conf) (B·LevelMasks .means b .conf) && (holds (A·LevelMasks .means a) p && holds (B·LevelMasks .means b) p))) ⌝ }
+    {
+        Both(a, b)
+    }
+}
 
 pub impl<A: LevelMasks, B: LevelMasks> LevelMasks for Both<A, B> as BothMasks {
     ghost means = { λ s. both (A·LevelMasks .means (s .0)) (B·LevelMasks .means (s .1)) };
@@ -51,8 +62,19 @@ pub impl<A: LevelMasks, B: LevelMasks> LevelMasks for Both<A, B> as BothMasks {
     }
 }
 
+// The positions in at least one. Trusted where both below are.
 #[derive(Drop)]
 pub struct Either<A, B>(pub A, pub B);
+
+impl<A: LevelMasks, B: LevelMasks> Either<A, B> {
+    pub fn new(a: A, b: B) -> Either<A, B>
+        ensures first { λ r. ⌜ r .0 ≡ a ⌝ }
+        ensures second { λ r. ⌜ r .1 ≡ b ⌝ }
+        ensures held { λ r. ⌜ ((p : ℕ) → holds (either (A·LevelMasks .means a) (B·LevelMasks .means b)) p ≡ (live (A·LevelMasks .means a .conf) (B·LevelMasks .means b .conf) && (holds (A·LevelMasks .means a) p || holds (B·LevelMasks .means b) p))) ⌝ }
+    {
+        Either(a, b)
+    }
+}
 
 pub impl<A: LevelMasks, B: LevelMasks> LevelMasks for Either<A, B> as EitherMasks {
     ghost means = { λ s. either (A·LevelMasks .means (s .0)) (B·LevelMasks .means (s .1)) };
@@ -89,8 +111,19 @@ pub impl<A: LevelMasks, B: LevelMasks> LevelMasks for Either<A, B> as EitherMask
     }
 }
 
+// The positions in the first only.
 #[derive(Drop)]
 pub struct Without<A, B>(pub A, pub B);
+
+impl<A: LevelMasks, B: LevelMasks> Without<A, B> {
+    pub fn new(a: A, b: B) -> Without<A, B>
+        ensures first { λ r. ⌜ r .0 ≡ a ⌝ }
+        ensures second { λ r. ⌜ r .1 ≡ b ⌝ }
+        ensures held { λ r. ⌜ ((p : ℕ) → holds (without (A·LevelMasks .means a) (B·LevelMasks .means b)) p ≡ (live (A·LevelMasks .means a .conf) (B·LevelMasks .means b .conf) && (holds (A·LevelMasks .means a) p && not (holds (B·LevelMasks .means b) p)))) ⌝ }
+    {
+        Without(a, b)
+    }
+}
 
 pub impl<A: LevelMasks, B: LevelMasks> LevelMasks for Without<A, B> as WithoutMasks {
     ghost means = { λ s. without (A·LevelMasks .means (s .0)) (B·LevelMasks .means (s .1)) };
@@ -127,8 +160,19 @@ pub impl<A: LevelMasks, B: LevelMasks> LevelMasks for Without<A, B> as WithoutMa
     }
 }
 
+// The positions in just one of the two.
 #[derive(Drop)]
 pub struct OneOf<A, B>(pub A, pub B);
+
+impl<A: LevelMasks, B: LevelMasks> OneOf<A, B> {
+    pub fn new(a: A, b: B) -> OneOf<A, B>
+        ensures first { λ r. ⌜ r .0 ≡ a ⌝ }
+        ensures second { λ r. ⌜ r .1 ≡ b ⌝ }
+        ensures held { λ r. ⌜ ((p : ℕ) → holds (oneOf (A·LevelMasks .means a) (B·LevelMasks .means b)) p ≡ (live (A·LevelMasks .means a .conf) (B·LevelMasks .means b .conf) && (exclusive (holds (A·LevelMasks .means a) p) (holds (B·LevelMasks .means b) p)))) ⌝ }
+    {
+        OneOf(a, b)
+    }
+}
 
 pub impl<A: LevelMasks, B: LevelMasks> LevelMasks for OneOf<A, B> as OneOfMasks {
     ghost means = { λ s. oneOf (A·LevelMasks .means (s .0)) (B·LevelMasks .means (s .1)) };

@@ -2,10 +2,21 @@
 ghost use mathlib.Core.Path.{_≡_};
 ghost use Prim.Native.Nat.{ℕ, _<_};
 ghost use Rattle.bit_block.specs.Bit.{Least};
+ghost use Rattle.bit_block.specs.Widths.{capacity};
 ghost use Rattle.bitset_interface.specs.Source.{Source, holds};
 ghost use Rattle.bitset_interface.specs.Lex.{RowLeast, PlaceLeast};
 use bit_block::config::Config;
 use crate::LevelMasks;
+
+// How many positions the source's configuration has; none where it is void.
+pub fn capacity_of<S: LevelMasks>(s: &S) -> usize
+    ensures { λ r. ⌜ r ≡ capacity (S·LevelMasks .means (now (s .entry)) .conf) ⌝ }
+{
+    match s.config() {
+        None => 0,
+        Some(c) => c.capacity(),
+    }
+}
 
 // Whether the source holds position p.
 pub fn contains<S: LevelMasks>(s: &S, p: usize) -> bool
