@@ -4,6 +4,8 @@ ghost use Rattle.certificate.specs.Complements.{complement, complement-lawful}
 use bit_block::config::Config;
 use bit_block::mask::Mask;
 use bitset_interface::LevelMasks;
+use bitset_interface::spread::every_level0;
+use bitset_interface::spread::every_level1;
 
 // Every position below the capacity that the source does not hold.
 #[derive(Drop)]
@@ -23,17 +25,11 @@ pub impl<S: LevelMasks> LevelMasks for Complement<S> as ComplementMasks {
     }
 
     fn level0_mask(&self) -> Mask {
-        match self.0.config() {
-            None => Mask::zero(),
-            Some(c) => Mask::full(c.level0),
-        }
+        every_level0(self.0.config())
     }
 
     fn level1_mask(&self, i: usize) -> Mask {
-        match self.0.config() {
-            None => Mask::zero(),
-            Some(c) => if i < c.level0.bits() { Mask::full(c.level1) } else { Mask::zero() },
-        }
+        every_level1(self.0.config(), i)
     }
 
     fn data_mask(&self, i: usize, j: usize) -> Mask {

@@ -25,7 +25,7 @@ pub enum Condition {
 pub fn comparable<A: LevelMasks, B: LevelMasks>(a: &A, b: &B) -> bool
     ensures { λ r. ⌜ r ≡ live (A·LevelMasks .means (now (a .entry)) .conf) (B·LevelMasks .means (now (b .entry)) .conf) ⌝ }
 {
-    Without(a, b).config().is_some()
+    Without::new(a, b).config().is_some()
 }
 
 // The first run at or above p of positions at which two sources break the condition.
@@ -33,7 +33,7 @@ pub fn next_fault<A: LevelMasks, B: LevelMasks>(condition: Condition, a: &A, b: 
     ensures { λ r. ⌜ RunFrom (fault condition (A·LevelMasks .means (now (a .entry))) (B·LevelMasks .means (now (b .entry)))) p r ⌝ }
 {
     match condition {
-        Condition::Inside => next_run(&Without(a, b), p),
-        Condition::Same => next_run(&OneOf(a, b), p),
+        Condition::Inside => next_run(&Without::new(a, b), p),
+        Condition::Same => next_run(&OneOf::new(a, b), p),
     }
 }

@@ -16,6 +16,7 @@ use bitset_interface::draft::Draft;
 use bitset_interface::draft::DraftError;
 use bitset_interface::draft::DraftMasks;
 use bitset_interface::RefMasks;
+use bitset_interface::walk::capacity_of;
 use bitset_interface::walk::next_from;
 use crate::complement::Complement;
 use crate::complement::ComplementMasks;
@@ -39,16 +40,6 @@ pub fn next_run<S: LevelMasks>(s: &S, p: usize) -> Option<Run>
     Some(Run { from, to })
 }
 
-// How many positions the configuration has; none where the source is void.
-pub fn capacity_of<S: LevelMasks>(s: &S) -> usize
-    ensures { λ r. ⌜ r ≡ capacity (S·LevelMasks .means (now (s .entry)) .conf) ⌝ }
-{
-    match s.config() {
-        None => 0,
-        Some(c) => c.capacity(),
-    }
-}
-
 // How many positions the source holds.
 pub fn count_held<S: LevelMasks>(s: &S) -> usize
     ensures { λ r. ⌜ r ≡ count (holds (S·LevelMasks .means (now (s .entry)))) (capacity (S·LevelMasks .means (now (s .entry)) .conf)) ⌝ }
@@ -63,7 +54,12 @@ pub fn count_held<S: LevelMasks>(s: &S) -> usize
 }
 
 // Marks in the draft every position that the source holds; refused, with nothing marked, where the draft has fewer positions than the source.
-pub fn mark_all<S: LevelMasks>(s: &S, draft: &mut Draft<'_>) -> Result<(), DraftError> {
+pub fn mark_all<S: LevelMasks>(s: &S, draft: &mut Draft<'_>) -> Result<(), DraftError>
+    ensures refused { λ r. ⌜ refusal r ≡ unless (leb (capacity (S·LevelMasks .means (now (s .entry)) .conf)) (capacity (fitting (now (draft .entry) .config) (length (now (now (draft .entry) .words)))))) badRange ⌝ }
+    ensures added { λ _. ⌜ Added (S·LevelMasks .means (now (s .entry))) (capacity (fitting (now (draft .entry) .config) (length (now (now (draft .entry) .words))))) (now (now (draft .entry) .words)) (now (now (draft .exit) .words)) ⌝ }
+    ensures config { λ _. ⌜ now (draft .exit) .config ≡ now (draft .entry) .config ⌝ }
+    ensures lender { λ _. ⌜ name (now (draft .exit) .words) ≡ name (now (draft .entry) .words) ⌝ }
+{
     if capacity_of(s) > capacity_of(draft) {
         return Err(DraftError::BadRange);
     }

@@ -1,0 +1,3 @@
+pub mod Maximal
+pub mod Counted
+pub mod Marks
