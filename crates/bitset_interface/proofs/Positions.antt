@@ -1,4 +1,4 @@
--- Positions below the capacity and their indices; what a draft holds; room in its words.
+-- Positions below the capacity and their indices; what a source holds whose upper bits are all raised.
 use Prim.Native.Nat.{ℕ, _+_, _*_, _/_, _%_, _<_, _≤_}
 use mathlib.Core.Path.{_≡_, refl, sym, ap, ap₂, _∙_}
 use mathlib.Core.Bool.{Bool, true, false, _&&_, cond}
@@ -16,8 +16,7 @@ use Rattle.bit_block.specs.declared.config.Config.{Config}
 use Rattle.bit_block.specs.Widths.{bits, w0, w1, wd, capacity, index0, index1, indexD}
 use Rattle.bit_block.proofs.Places.{sized}
 use Rattle.bitset_interface.specs.Source.{holds}
-use Rattle.bitset_interface.specs.Spread.{spread}
-use Rattle.bitset_interface.specs.Drafts.{stored, draftWords, fitting, position, marked}
+use Rattle.bitset_interface.specs.Spread.{spread, position}
 use Rattle.bitset_interface.proofs.Places.{low}
 
 -- below the capacity each index is below its width, and the indices give the position back
@@ -54,30 +53,3 @@ spread-holds o f p =
           (ap (λ (a : Bool). a && f (index0 o p) (index1 o p) (indexD o p)) (lt-ltb (indexD o p) (wd o) (x .bit))) ))
     (λ h. and-left (ltb p (capacity o)) _ (le-ltb p (capacity o) h) ∙ sym (and-left (ltb p (capacity o)) (f (index0 o p) (index1 o p) (indexD o p)) (le-ltb p (capacity o) h)))
     (cases-lt p (capacity o))
-
--- marked words hold the positions below the capacity whose bits are stored
-pub marked-holds : (o : Option Config) (xs : List ℕ) (p : ℕ) → holds (marked o xs) p ≡ (ltb p (capacity o) && stored xs p)
-marked-holds o xs p =
-    spread-holds o (λ i j k. stored xs (position o i j k)) p
-    ∙ ⊎-elim
-      (λ h. ap (λ (x : ℕ). ltb p (capacity o) && stored xs x) (indexed o p h .back))
-      (λ h. and-left (ltb p (capacity o)) _ (le-ltb p (capacity o) h) ∙ sym (and-left (ltb p (capacity o)) (stored xs p) (le-ltb p (capacity o) h)))
-      (cases-lt p (capacity o))
-
--- a capacity is whole words
-whole : (c : Config) → draftWords c * 64 ≡ capacity (Some c)
-whole c =
-    let v : ℕ = bits (c .«data») in
-    let q : ℕ = bits (c .level0) * (bits (c .level1) * (v / 64)) in
-    let e : q * 64 ≡ bits (c .level0) * (bits (c .level1) * v) =
-        mul-assoc (bits (c .level0)) (bits (c .level1) * (v / 64)) 64
-        ∙ ap (λ (x : ℕ). bits (c .level0) * x) (mul-assoc (bits (c .level1)) (v / 64) 64 ∙ ap (λ (x : ℕ). bits (c .level1) * x) (sized (c .«data») .whole)) in
-    omega (arith, e)
-
--- a draft that is not void has room for its positions
-pub room : (c : Config) (n : ℕ) → capacity (fitting c n) ≤ n * 64
-room c n =
-    ⊎-elim
-    (λ e. omega (arith, ap (λ (b : Bool). capacity (cond b (Some c) None)) e, whole c, leb-true (draftWords c) n e))
-    (λ e. omega (arith, ap (λ (b : Bool). capacity (cond b (Some c) None)) e))
-    (cases-bool (leb (draftWords c) n))

@@ -1,5 +1,5 @@
 -- A source that raises every bit of levels 0 and 1, over any data bits.
-use Prim.Native.Nat.{ℕ, _<_}
+use Prim.Native.Nat.{ℕ, _+_, _*_, _<_}
 use mathlib.Core.Path.{_≡_}
 use mathlib.Core.Bool.{Bool, true, false, _&&_}
 use lib.Dec.{ltb}
@@ -16,6 +16,7 @@ every0 o i = ltb i (w0 o)
 abbrev pub every1 : Option Config → ℕ → ℕ → Bool
 every1 o i j = ltb i (w0 o) && ltb j (w1 o)
 
+-- all those bits, over data bits f
 abbrev pub spread : Option Config → (ℕ → ℕ → ℕ → Bool) → Source
 spread o f = record {
     conf = o;
@@ -35,3 +36,7 @@ spread-lawful o f = record {
     full0 = λ i t e. absurd (false≢true t);
     full1 = λ i j t e. absurd (false≢true t)
   }
+
+-- the position of bit k of block (i, j)
+abbrev pub position : Option Config → ℕ → ℕ → ℕ → ℕ
+position o i j k = i * (w1 o * wd o) + (j * wd o + k)

@@ -1,6 +1,4 @@
 // Sources of level masks: what a style set is to every call that reads it.
-pub mod draft;
-pub mod layers;
 pub mod spread;
 pub mod walk;
 ghost use Prim.Native.Nat.{ℕ};

@@ -14,9 +14,10 @@ use Rattle.bit_block.specs.declared.config.Config.{Config}
 use Rattle.bit_block.specs.Widths.{capacity}
 use Rattle.bitset_interface.specs.Source.{Source, Lawful, holds}
 use Rattle.std.specs.declared.result.Result.the-variants.{Err}
-use Rattle.bitset_interface.specs.declared.draft.DraftError.{DraftError}
-use Rattle.bitset_interface.specs.Drafts.{stored, fitting, within, Spanned, Sets, goodRange}
-use Rattle.bitset_interface.specs.Refusals.{refusal, unless, badRange, draftRefusal}
+use Rattle.draft.specs.declared.DraftError.{DraftError}
+use Rattle.draft.specs.Drafts.{stored, fitting, within, Spanned, Sets, goodRange}
+use Rattle.bitset_interface.specs.Refusals.{unless}
+use Rattle.draft.specs.Refusals.{refusal, badRange, draftRefusal}
 use Rattle.certificate.specs.Runs.{First, RunFrom, Adds}
 use Rattle.certificate.specs.declared.runs.Run.{Run}
 use Rattle.certificate.proofs.Maximal.{run-within}

@@ -9,7 +9,7 @@ use Rattle.std.specs.declared.option.Option.{Option}
 use Rattle.std.specs.declared.option.Option.the-variants.{Some, None}
 use Rattle.bit_block.specs.Widths.{capacity}
 use Rattle.bitset_interface.specs.Source.{Source, holds}
-use Rattle.bitset_interface.specs.Drafts.{stored}
+use Rattle.draft.specs.Drafts.{stored}
 use Rattle.certificate.specs.declared.runs.Run.{Run}
 
 -- r.from..r.to passes whole and could not be longer, and nothing passes from p to r.from

@@ -6,10 +6,10 @@ ghost use Rattle.certificate.specs.Runs.{RunFrom};
 ghost use Rattle.certificate.specs.Faults.{fault};
 use bitset_interface::LevelMasks;
 use bitset_interface::RefMasks;
-use bitset_interface::layers::OneOf;
-use bitset_interface::layers::OneOfMasks;
-use bitset_interface::layers::Without;
-use bitset_interface::layers::WithoutMasks;
+use ops::OneOf;
+use ops::OneOfMasks;
+use ops::Without;
+use ops::WithoutMasks;
 use crate::runs::next_run;
 use crate::runs::Run;
 

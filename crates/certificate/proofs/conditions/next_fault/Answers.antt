@@ -1,6 +1,7 @@
 use denote.Ref.{now}
 use mathlib.Core.Path.{sym, ap, ap₂, _∙_}
-use Rattle.bitset_interface.specs.Source.{holds, without, oneOf}
+use Rattle.bitset_interface.specs.Source.{holds}
+use Rattle.ops.specs.Layer.{without, oneOf}
 use Rattle.certificate.specs.Faults.{fault}
 use Rattle.certificate.specs.declared.conditions.Condition.{Condition}
 use Rattle.certificate.proofs.Maximal.{run-same}

@@ -10,8 +10,9 @@ use Rattle.std.specs.declared.option.Option.{Option}
 use Rattle.bit_block.specs.declared.config.Config.{Config}
 use Rattle.bit_block.specs.Widths.{capacity}
 use Rattle.bitset_interface.specs.Source.{holds}
-use Rattle.bitset_interface.specs.Drafts.{fitting, Sets, goodRange}
-use Rattle.bitset_interface.specs.Refusals.{unless, badRange}
+use Rattle.draft.specs.Drafts.{fitting, Sets, goodRange}
+use Rattle.bitset_interface.specs.Refusals.{unless}
+use Rattle.draft.specs.Refusals.{badRange}
 use Rattle.certificate.specs.Runs.{Adds}
 use Rattle.certificate.proofs.Maximal.{run-within, run-small}
 use Rattle.certificate.proofs.Marks.{Part, part-none, part-more, part-all, spanned, run-good, accepted}

@@ -1,8 +1,0 @@
-use mathlib.Core.Path.{refl}
-use mathlib.Core.Bool.{true, false, not, _&&_, _||_}
-use Rattle.bit_block.specs.Bit.{exclusive}
-use Rattle.bitset_interface.proofs.Layered.{layer-holds}
-use Rattle.bitset_interface.proofs.layers.OneOf.new.Needs as need
-
-pub returns : need.returns
-returns g c = record { first = refl; second = refl; held = layer-holds (λ p q. p || q) (λ p q. p || q) exclusive refl false (g .A·LevelMasks .means (c .args .a)) (g .B·LevelMasks .means (c .args .b)) }
