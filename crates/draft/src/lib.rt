@@ -159,7 +159,7 @@ impl<'a> Draft<'a> {
         if n <= words.len() {
             words[0..n].fill(0);
         }
-        Draft { config, words }
+        Draft::reopen(words, config)
     }
 
     // The draft that the words are already; nothing is written.

@@ -136,7 +136,7 @@ pub impl<A: LevelMasks, B: LevelMasks> LevelMasks for Without<A, B> as WithoutMa
     }
 
     fn trusted(&self) -> bool {
-        false
+        false // taking away may empty a block that stays raised
     }
 
     fn level0_mask(&self) -> Mask {

@@ -1,0 +1,7 @@
+// Worked examples, run as tests.
+#[cfg(test)]
+mod drafts;
+#[cfg(test)]
+mod layers;
+#[cfg(test)]
+mod masks;
