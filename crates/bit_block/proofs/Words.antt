@@ -4,7 +4,7 @@ use mathlib.Core.Path.{_≡_, refl, sym, ap, subst, _∙_}
 use mathlib.Core.Bool.{Bool, true, false, _&&_, _||_, cond}
 use mathlib.Core.List.{List, [], _∷_}
 use mathlib.Core.Logic.{_⊎_, inl, inr, ⊎-elim}
-use native.Mathlib.Nat.{div-self, pow-suc}
+use native.Mathlib.Nat.{add-zero, div-self, pow-suc}
 use native.Mathlib.Omega.{arith}
 use lib.Bits.{bitOr}
 use lib.Dec.{eqb, ltb}
@@ -41,6 +41,24 @@ four f n a b c d le p q r s (suc zero) = q
 four f n a b c d le p q r s (suc (suc zero)) = r
 four f n a b c d le p q r s (suc (suc (suc zero))) = s
 four f n a b c d le p q r s (suc (suc (suc (suc m)))) = sym (cond-false (ltb (suc (suc (suc (suc m)))) n) (f (suc (suc (suc (suc m))))) 0 (le-ltb (suc (suc (suc (suc m)))) n (omega arith)))
+
+-- the words that stand from `base` on
+abbrev pub from : List ℕ → ℕ → ℕ → ℕ
+from xs base q = getD xs (base + q) 0
+
+module _ (xs : List ℕ) (base : ℕ) (t : ℕ) where
+  at-base : getD xs base 0 ≡ from xs base 0
+  at-base = ap (λ (x : ℕ). getD xs x 0) (sym (add-zero base))
+
+  -- a mask of one, two or four of them
+  pub bits1 : raised (record { words = getD xs base 0 ∷ 0 ∷ 0 ∷ 0 ∷ [] }) t ≡ (ltb t 64 && bitOf (from xs base (t / 64)) (t % 64))
+  bits1 = lanes-bits (from xs base) 1 (getD xs base 0 ∷ 0 ∷ 0 ∷ 0 ∷ []) (four (from xs base) 1 (getD xs base 0) 0 0 0 (omega arith) at-base refl refl refl) t
+
+  pub bits2 : raised (record { words = getD xs base 0 ∷ getD xs (base + 1) 0 ∷ 0 ∷ 0 ∷ [] }) t ≡ (ltb t 128 && bitOf (from xs base (t / 64)) (t % 64))
+  bits2 = lanes-bits (from xs base) 2 (getD xs base 0 ∷ getD xs (base + 1) 0 ∷ 0 ∷ 0 ∷ []) (four (from xs base) 2 (getD xs base 0) (getD xs (base + 1) 0) 0 0 (omega arith) at-base refl refl refl) t
+
+  pub bits4 : raised (record { words = getD xs base 0 ∷ getD xs (base + 1) 0 ∷ getD xs (base + 2) 0 ∷ getD xs (base + 3) 0 ∷ [] }) t ≡ (ltb t 256 && bitOf (from xs base (t / 64)) (t % 64))
+  bits4 = lanes-bits (from xs base) 4 (getD xs base 0 ∷ getD xs (base + 1) 0 ∷ getD xs (base + 2) 0 ∷ getD xs (base + 3) 0 ∷ []) (four (from xs base) 4 (getD xs base 0) (getD xs (base + 1) 0) (getD xs (base + 2) 0) (getD xs (base + 3) 0) (omega arith) at-base refl refl refl) t
 
 same-and : (p q : Bool) → q ≡ true → (p && q) ≡ p
 same-and true q e = e

@@ -64,22 +64,22 @@ module _ (w v : ℕ) (pw : 0 < w) (pv : 0 < v) where
   clash i j k a b c (inr (p, inr (s, x))) (inr (q, inr (u, y))) = omega arith
 
   module _ (i j k : ℕ) (hj : j < w) (hk : k < v) where
-    abbrev at : ℕ
+    abbrev pub at : ℕ
     at = i * (w * v) + (j * v + k)
 
     fits : j * v + k < w * v
     fits = omega (arith, mul-add-lt j v k w hj hk)
 
-    first : at / (w * v) ≡ i
+    pub first : at / (w * v) ≡ i
     first = div-mul-add i (w * v) (j * v + k) fits
 
     rest : at % (w * v) ≡ j * v + k
     rest = mod-mul-add i (w * v) (j * v + k) fits
 
-    second : at % (w * v) / v ≡ j
+    pub second : at % (w * v) / v ≡ j
     second = ap (λ (x : ℕ). x / v) rest ∙ div-mul-add j v k hk
 
-    third : at % v ≡ k
+    pub third : at % v ≡ k
     third = sym (low at) ∙ (ap (λ (x : ℕ). x % v) rest ∙ mod-mul-add j v k hk)
 
     -- the position of the least place is the least position

@@ -1,5 +1,7 @@
 // Worked examples, run as tests.
 #[cfg(test)]
+mod commands;
+#[cfg(test)]
 mod drafts;
 #[cfg(test)]
 mod layers;

@@ -2,9 +2,9 @@
 use Prim.Native.Nat.{ℕ, zero, suc, _+_, _-_, _*_, _/_, _%_, _^_, _<_, _≤_}
 use mathlib.Core.Path.{_≡_, refl, sym, ap, subst, _∙_}
 use mathlib.Core.Bool.{Bool, true, false, _&&_, cond}
-use mathlib.Core.List.{List, [], _∷_}
+use mathlib.Core.List.{List}
 use mathlib.Core.Logic.{_⊎_, inl, inr, ⊎-elim}
-use native.Mathlib.Nat.{add-zero, mul-assoc, mul-comm, add-mul}
+use native.Mathlib.Nat.{mul-assoc, add-mul}
 use native.Mathlib.Omega.{arith}
 use lib.Dec.{ltb}
 use lib.ListN.{length, getD}
@@ -17,27 +17,8 @@ use Rattle.bit_block.specs.Raised.{raised}
 use Rattle.bit_block.specs.declared.config.Config.{Config}
 use Rattle.bit_block.specs.Widths.{bits, w0, w1, wd, capacity}
 use Rattle.bit_block.proofs.Places.{sized}
-use Rattle.bit_block.proofs.Words.{lanes-bits, four}
 use Rattle.bitset_interface.specs.Spread.{position}
 use Rattle.draft.specs.Drafts.{stored, draftWords, marked}
-
--- the words that stand from `base` on
-abbrev pub from : List ℕ → ℕ → ℕ → ℕ
-from xs base q = getD xs (base + q) 0
-
-module _ (xs : List ℕ) (base : ℕ) (t : ℕ) where
-  at-base : getD xs base 0 ≡ from xs base 0
-  at-base = ap (λ (x : ℕ). getD xs x 0) (sym (add-zero base))
-
-  -- a mask of one, two or four of them
-  pub bits1 : raised (record { words = getD xs base 0 ∷ 0 ∷ 0 ∷ 0 ∷ [] }) t ≡ (ltb t 64 && bitOf (from xs base (t / 64)) (t % 64))
-  bits1 = lanes-bits (from xs base) 1 (getD xs base 0 ∷ 0 ∷ 0 ∷ 0 ∷ []) (four (from xs base) 1 (getD xs base 0) 0 0 0 (omega arith) at-base refl refl refl) t
-
-  pub bits2 : raised (record { words = getD xs base 0 ∷ getD xs (base + 1) 0 ∷ 0 ∷ 0 ∷ [] }) t ≡ (ltb t 128 && bitOf (from xs base (t / 64)) (t % 64))
-  bits2 = lanes-bits (from xs base) 2 (getD xs base 0 ∷ getD xs (base + 1) 0 ∷ 0 ∷ 0 ∷ []) (four (from xs base) 2 (getD xs base 0) (getD xs (base + 1) 0) 0 0 (omega arith) at-base refl refl refl) t
-
-  pub bits4 : raised (record { words = getD xs base 0 ∷ getD xs (base + 1) 0 ∷ getD xs (base + 2) 0 ∷ getD xs (base + 3) 0 ∷ [] }) t ≡ (ltb t 256 && bitOf (from xs base (t / 64)) (t % 64))
-  bits4 = lanes-bits (from xs base) 4 (getD xs base 0 ∷ getD xs (base + 1) 0 ∷ getD xs (base + 2) 0 ∷ getD xs (base + 3) 0 ∷ []) (four (from xs base) 4 (getD xs base 0) (getD xs (base + 1) 0) (getD xs (base + 2) 0) (getD xs (base + 3) 0) (omega arith) at-base refl refl refl) t
 
 module _ (c : Config) (i j l d : ℕ) (el : l ≡ bits (c .level1)) (ed : d ≡ bits (c .«data»)) where
   -- the position of bit t, by the block's first word

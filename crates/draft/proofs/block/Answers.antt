@@ -5,7 +5,7 @@ use lib.Dec.{ltb}
 use Rattle.bit_block.specs.Bit.{bitOf}
 use Rattle.bit_block.specs.declared.config.Width.{Width}
 use Rattle.bit_block.specs.Widths.{bits}
-use Rattle.draft.proofs.Blocks.{from, bits1, bits2, bits4}
+use Rattle.bit_block.proofs.Words.{from, bits1, bits2, bits4}
 use Rattle.draft.proofs.block.Needs as need
 
 pub returns-in-W64 : need.returns-in-W64

@@ -1,0 +1,9 @@
+pub mod Gathered
+pub mod Starts0
+pub mod Packed
+pub mod Wrote
+pub mod Measures
+pub mod Fills
+pub mod Meaning
+pub mod Views
+pub mod Packs
