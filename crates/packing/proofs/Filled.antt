@@ -2,22 +2,24 @@
 use Prim.Native.Nat.{ℕ, _+_, _*_, _/_, _<_, _≤_}
 use mathlib.Core.Path.{_≡_, refl, sym, ap, ap₂, subst, fun-ext, _∙_}
 use mathlib.Core.List.{List}
-use mathlib.Core.Bool.{Bool, true, cond}
+use mathlib.Core.Bool.{Bool, true, cond, _&&_}
 use native.Mathlib.Omega.{arith}
+use lib.Dec.{ltb}
 use lib.ListN.{length, take}
 use Rattle.std.proofs.shelf.Tests.{ltb-true}
 use Rattle.std.specs.declared.option.Option.{Option}
 use Rattle.bit_block.specs.Raised.{raised}
 use Rattle.bit_block.specs.Ranges.{count}
 use Rattle.bit_block.specs.declared.config.Config.{Config}
-use Rattle.bit_block.specs.Widths.{w0, w1, wd}
-use Rattle.bitset_interface.specs.Source.{Source, Lawful}
+use Rattle.bit_block.specs.Widths.{w0, w1, wd, capacity, index0, index1, indexD}
+use Rattle.bitset_interface.specs.Source.{Source, Lawful, holds}
 use Rattle.packing.specs.declared.Numbers.{Numbers}
 use Rattle.packing.specs.Starts0.{start0}
 use Rattle.packing.specs.Packed.{held, blocks, full, packed, needed}
 use Rattle.packing.specs.Fills.{k1, kd, allWords}
 use Rattle.packing.specs.Meaning.{k1of, kdof, k1-whole, kd-whole, heldAt, upAt, Wide, Starts0, RowsHeld, BlocksHeld}
 use Rattle.packing.specs.Packs.{NumbersOf, WordsOf, PackedAs}
+use Rattle.packing.specs.Views.{viewed}
 use Rattle.packing.proofs.Held.{full-under}
 use Rattle.packing.proofs.Unpack.{rows-are, counts-are, starts-are, held-same, up-same}
 
@@ -63,6 +65,11 @@ module _ (s : Source) (law : Lawful s) (m : Numbers) (N : NumbersOf s m) (old ne
   same-up : (i j : ℕ) → upAt m new i j ≡ s .up2 i j
   same-up i j = fun-ext (λ t. up-same s law m new top (N .rowsAre) (N .blocksAre) wide1 wided (k1-whole m .1) (kd-whole m .1) front′ fits′ i j t)
 
+  -- at every position the same answer
+  same-positions : (p : ℕ) → holds (viewed m new) p ≡ holds s p
+  same-positions p =
+      ap₂ (λ (o : Option Config) (f : ℕ → ℕ → ℕ → Bool). ltb p (capacity o) && f (index0 o p) (index1 o p) (indexD o p)) (N .conf) (fun-ext (λ i. fun-ext (λ j. same-up i j)))
+
   rows-held : RowsHeld m new
   unfolding blocks
   rows-held i e = subst (λ (g : ℕ → Bool). 0 < count g 256) (sym (same-held i)) (ltb-true 0 (count (held s i) 256) (is-full i e))
@@ -86,5 +93,6 @@ module _ (s : Source) (law : Lawful s) (m : Numbers) (N : NumbersOf s m) (old ne
           counts = counts-are s law m new top (N .rowsAre) (N .blocksAre) wide1 wided (k1-whole m .1) (kd-whole m .1) front′ fits′;
           blocksHeld = blocks-held
         };
-      means = λ i j t. ap (λ (g : ℕ → Bool). g t) (same-up i j)
+      means = λ i j t. ap (λ (g : ℕ → Bool). g t) (same-up i j);
+      positions = same-positions
     }

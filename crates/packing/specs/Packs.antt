@@ -12,6 +12,7 @@ use Rattle.packing.specs.Starts0.{start0}
 use Rattle.packing.specs.Packed.{held, full, rowCount, blockCount, packed}
 use Rattle.packing.specs.Fills.{k1, kd, allWords}
 use Rattle.packing.specs.Meaning.{Sound, upAt}
+use Rattle.packing.specs.Views.{viewed}
 
 -- m has the numbers of s
 pub record NumbersOf (s : Source) (m : Numbers) : Type 0 where
@@ -27,12 +28,13 @@ pub record WordsOf (s : Source) (old new : List ℕ) : Type 0 where
   pub front : take (allWords s) new ≡ packed (k1 s) (kd s) s
   pub rest : drop (allWords s) new ≡ drop (allWords s) old
 
--- numbers and words of s, and together they mean what s means
+-- numbers and words of s; together they keep the rules of a set and hold just what s holds, block by block and at every position
 pub record PackedAs (s : Source) (m : Numbers) (old new : List ℕ) : Type 0 where
   pub numbers : NumbersOf s m
   pub words : WordsOf s old new
   pub sound : Sound m new
   pub means : (i j t : ℕ) → upAt m new i j t ≡ s .up2 i j t
+  pub positions : (p : ℕ) → holds (viewed m new) p ≡ holds s p
 
 -- two sources have the same numbers and the same words
 pub record SamePacking (s t : Source) : Type 0 where
