@@ -4,7 +4,7 @@ use mathlib.Core.Path.{_≡_, refl, sym, ap, subst, _∙_}
 use mathlib.Core.Bool.{Bool, true, false}
 use mathlib.Core.Logic.{_⊎_, inl, inr, ⊎-elim}
 use native.Mathlib.Omega.{arith}
-use Rattle.std.proofs.shelf.Bits.{mul-le, mul-add-lt, div-below}
+use Rattle.std.proofs.shelf.Bits.{mul-le, mul-add-lt}
 use Rattle.std.proofs.shelf.Tests.{cases-bool}
 use Rattle.std.specs.declared.option.Option.{Option}
 use Rattle.std.specs.declared.option.Option.the-variants.{Some, None}
@@ -33,13 +33,6 @@ module _ (s : Source) (law : Lawful s) (cfg : Config) (is : Some cfg ≡ s .conf
 
   posd : 0 < wd (s .conf)
   posd = omega (arith, isd, sized (cfg .«data») .least)
-
-  -- the level-1 index of any position is small
-  pub index1-small : index1 (Some cfg) p < 256
-  index1-small =
-      let pos : 0 < bits (cfg .«data») = omega (arith, sized (cfg .«data») .least) in
-      let pos2 : 0 < bits (cfg .level1) * bits (cfg .«data») = omega (arith, mul-le 1 1 (bits (cfg .level1)) (bits (cfg .«data»)) (omega (arith, sized (cfg .level1) .least)) pos) in
-      omega (arith, sized (cfg .level1) .most, div-below (p % (bits (cfg .level1) * bits (cfg .«data»))) (bits (cfg .«data»)) (bits (cfg .level1)) pos (omega arith))
 
   module _ (i j k : ℕ) (ei : i ≡ index0 (Some cfg) p) (ej : j ≡ index1 (Some cfg) p) (ek : k ≡ indexD (Some cfg) p) where
     -- the same indices, in the source's own configuration

@@ -8,7 +8,7 @@ ghost use denote.Ref.{now, name};
 ghost use Rattle.bit_block.specs.Bit.{bitOf};
 ghost use Rattle.bit_block.specs.Raised.{raised};
 ghost use Rattle.bit_block.specs.Widths.{bits, capacity};
-ghost use Rattle.bitset_interface.specs.Source.{Source, Lawful};
+ghost use Rattle.bitset_interface.specs.Source.{Source, Lawful, holds};
 ghost use Rattle.draft.specs.Drafts.{stored, draftWords, fitting, draft, draft-lawful, cleared, Spanned, Sets, goodRange};
 ghost use Rattle.bitset_interface.specs.Refusals.{unless};
 ghost use Rattle.draft.specs.Refusals.{refusal, badRange, noWords};
@@ -44,10 +44,11 @@ pub struct DraftView<'a> {
 }
 
 impl<'a> DraftView<'a> {
-    // The draft that the words are.
+    // The draft that the words are: it holds the positions below its capacity whose bits are set in them.
     pub fn new(words: &'a [u64], config: Config) -> DraftView<'a>
         ensures words { λ r. ⌜ now (r .words) ≡ now (words .entry) ⌝ }
         ensures config { λ r. ⌜ r .config ≡ config ⌝ }
+        ensures held { λ r. ⌜ ((p : ℕ) → holds (draft (r .config) (now (r .words))) p ≡ (ltb p (capacity (fitting config (length (now (words .entry))))) && stored (now (words .entry)) p)) ⌝ }
     {
         DraftView { config, words }
     }

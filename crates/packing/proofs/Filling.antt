@@ -21,9 +21,6 @@ use Rattle.packing.proofs.Writes.{wrote-then, wrote-as}
 pub rows-most : (h : ℕ → ℕ → Bool) → rowCount h ≤ 256
 rows-most h = count-le (full h) 256
 
-pub blocks-most : (h : ℕ → ℕ → Bool) → blockCount h ≤ 65536
-blocks-most h = omega (arith, total-le (blocks h) 256 256 (blocks-le h))
-
 pub length-starts : (xs : List ℕ) → length (startWords xs) ≡ quarter (length xs)
 length-starts xs = length-singles (λ q. four xs (4 * q)) (quarter (length xs))
 

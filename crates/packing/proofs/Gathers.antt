@@ -53,14 +53,3 @@ module _ (g : ℕ → List ℕ) where
   sum-gather f zero = ap (sumBy f) (gather-none g) ∙ sym (total-none (λ i. sumBy f (g i)))
   sum-gather f (suc n) =
       ap (sumBy f) (gather-suc g n) ∙ sumBy-append f (gather g n) (g n) ∙ ap (λ (x : ℕ). x + sumBy f (g n)) (sum-gather f n) ∙ sym (total-suc (λ i. sumBy f (g i)) n)
-
-pub total-same : (f g : ℕ → ℕ) (n : ℕ) → ((t : ℕ) → t < n → f t ≡ g t) → total f n ≡ total g n
-total-same f g zero h = total-none f ∙ sym (total-none g)
-total-same f g (suc n) h = total-suc f n ∙ ap₂ _+_ (total-same f g n (λ t l. h t (omega arith))) (h n (omega arith)) ∙ sym (total-suc g n)
-
--- a count goes on from a
-pub count-add : (f : ℕ → Bool) (a b : ℕ) → count f (a + b) ≡ count f a + count (λ t. f (a + t)) b
-count-add f a zero = omega (arith, ap (count f) (let e : a + 0 ≡ a = omega arith in e), count-none (λ t. f (a + t)))
-count-add f a (suc b) =
-    let e : count f (a + suc b) ≡ count f (suc (a + b)) = ap (count f) (let d : a + suc b ≡ suc (a + b) = omega arith in d) in
-    omega (arith, e, count-suc f (a + b), count-add f a b, count-suc (λ t. f (a + t)) b)

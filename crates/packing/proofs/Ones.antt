@@ -17,13 +17,10 @@ use Rattle.std.proofs.shelf.Tests.{cases-eq}
 use Rattle.bit_block.specs.Bit.{bitOf}
 use Rattle.bit_block.specs.Ranges.{total, count}
 use Rattle.packing.specs.Gathered.{gather, number, wordsOf}
-use Rattle.bit_block.proofs.Counting.{count-none, count-suc}
+use Rattle.bit_block.proofs.Counting.{count-none, count-suc, count-add}
 use Rattle.packing.proofs.Ranges.{gather-none}
 use Rattle.packing.proofs.Words.{number-same, number-bits, words-none, words-more, length-words}
-use Rattle.packing.proofs.Gathers.{gather-at, gather-take, count-add, total-same}
-use Rattle.bit_block.specs.Raised.{raised}
-use Rattle.bit_block.specs.declared.mask.Mask.{Mask}
-use Rattle.bit_block.proofs.Masks.{raised-at}
+use Rattle.packing.proofs.Gathers.{gather-at, gather-take}
 
 pub number-none : (f : ℕ → Bool) → number f 0 ≡ 0
 unfolding number
@@ -73,13 +70,6 @@ ones-number f (suc k) =
     ap ones (number-suc f k) ∙ ones-bit (f k) (2 ^ k) (number f k) ∙ ones-cat k (cond (f k) 1 0) (number f k) (number-lt f k)
     ∙ omega (arith, ones-flag (f k), ones-number f k, count-suc f k)
 
--- the ones of a word, and those below bit r
-pub ones-word : (n k : ℕ) → n < 2 ^ k → ones n ≡ count (bitOf n) k
-ones-word n k h = ap ones (sym (mod-eq-of-lt h) ∙ number-bits n k) ∙ ones-number (bitOf n) k
-
-pub ones-low : (n r : ℕ) → ones (n % 2 ^ r) ≡ count (bitOf n) r
-ones-low n r = ap ones (number-bits n r) ∙ ones-number (bitOf n) r
-
 -- word q of the words of f
 abbrev pub wordAt : (ℕ → Bool) → ℕ → ℕ
 wordAt f q = number (λ t. f (q * 64 + t)) 64
@@ -109,11 +99,3 @@ ones-words f (suc k) =
 
 pub ones-take-words : (f : ℕ → Bool) (k q : ℕ) → q < k → sumBy ones (take q (wordsOf k f)) ≡ count f (q * 64)
 ones-take-words f k q h = ap (sumBy ones) (take-words f k q h) ∙ ones-words f q
-
-pub count-same : (f g : ℕ → Bool) (n : ℕ) → ((t : ℕ) → t < n → f t ≡ g t) → count f n ≡ count g n
-unfolding count
-count-same f g n h = total-same (λ t. cond (f t) 1 0) (λ t. cond (g t) 1 0) n (λ t l. ap {B = ℕ} (λ (b : Bool). cond b 1 0) (h t l))
-
--- the bits of word q of a mask
-pub word-count : (m : Mask) (q r : ℕ) → r ≤ 64 → count (bitOf (getD (m .words) q 0)) r ≡ count (λ t. raised m (q * 64 + t)) r
-word-count m q r h = count-same (bitOf (getD (m .words) q 0)) (λ t. raised m (q * 64 + t)) r (λ t l. sym (raised-at m q t (omega arith)))

@@ -23,11 +23,12 @@ use Rattle.bit_block.specs.Ranges.{total, count}
 use Rattle.packing.specs.Gathered.{gather, number, wordsOf}
 use Rattle.packing.specs.Packed.{held, blocks, full, rowCount, blockCount, level1, level1To, before, four, quarter, needed, startWords, dataWords, dataTo, dataRow, dataRowTo, packed}
 use Rattle.packing.specs.Meaning.{k1of, kdof, Rows, Counts, Starts, lenOf, wordPlace, heldAt, rank, blockPlace, bitFrom, upAt}
-use Rattle.bit_block.proofs.Counting.{count-le, count-more}
+use Rattle.bit_block.proofs.Counting.{count-le, count-more, total-same, count-add, count-same}
+use Rattle.bitset_interface.proofs.Rows.{off}
 use Rattle.packing.proofs.Ranges.{count-grows, never-count, count-some}
 use Rattle.packing.proofs.Words.{length-words}
-use Rattle.packing.proofs.Gathers.{gather-at, gather-take, gather-room, sum-gather, total-same, count-add}
-use Rattle.packing.proofs.Ones.{wordAt, number-bit, ones-low, ones-words, ones-take-words, getD-words, count-same}
+use Rattle.packing.proofs.Gathers.{gather-at, gather-take, gather-room, sum-gather}
+use Rattle.packing.proofs.Ones.{wordAt, number-bit, ones-words, ones-take-words, getD-words}
 use Rattle.packing.proofs.Lengths.{length-level1, length-dataRow, length-data, length-singles}
 use Rattle.packing.proofs.Filling.{length-starts}
 use Rattle.packing.proofs.Held.{held-yes, held-under, held-past, full-past}
@@ -42,9 +43,6 @@ getD-singles g n q h =
 sum-if : (b : Bool) (xs : List ℕ) (n : ℕ) → (b ≡ true → sumBy ones xs ≡ n) → (b ≡ false → n ≡ 0) → sumBy ones (cond b xs []) ≡ n
 sum-if true xs n f g = f refl
 sum-if false xs n f g = sym (g refl)
-
-off : (p q : Bool) → (p ≡ true → q ≡ true) → q ≡ false → p ≡ false
-off p q f e = ⊎-elim (λ t. absurd (both-ways q e (f t))) (λ t. t) (cases-bool p)
 
 module _ (s : Source) (law : Lawful s) where
   abbrev h : ℕ → ℕ → Bool

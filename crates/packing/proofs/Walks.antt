@@ -12,7 +12,8 @@ use Rattle.bitset_interface.specs.Source.{Source, Lawful}
 use Rattle.bit_block.specs.Ranges.{count}
 use Rattle.packing.specs.Packed.{held, blocks, full}
 use Rattle.packing.proofs.Ranges.{never-count, count-some}
-use Rattle.packing.proofs.Held.{held-no, held-under, held-yes, held-past, off}
+use Rattle.bitset_interface.proofs.Rows.{off}
+use Rattle.packing.proofs.Held.{held-no, held-under, held-yes, held-past}
 
 -- `got` has what h has below `at`, and nothing from there on
 abbrev pub UpTo : (ℕ → Bool) → ℕ → (ℕ → Bool) → Type 0
