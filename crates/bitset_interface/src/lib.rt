@@ -1,4 +1,6 @@
 // Sources of level masks: what a style set is to every call that reads it.
+#![tactic(auto)]
+
 pub mod spread;
 pub mod walk;
 

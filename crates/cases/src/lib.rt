@@ -1,4 +1,6 @@
 // Worked examples, run as tests.
+#![tactic(auto)]
+
 #[cfg(test)]
 mod drafts;
 #[cfg(test)]

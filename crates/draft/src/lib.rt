@@ -1,4 +1,6 @@
 // A draft: one bit a position in lent words, to be marked and cleared while a style is still being set.
+#![tactic(auto)]
+
 ghost use Rattle.std.specs.Prelude.{◌≡◌, ℕ, ◌+◌, ◌*◌, ◌/◌, ◌%◌, ◌^◌, ◌<◌, ◌≤◌, Bool, true, false, ◌&&◌, length, if◌then◌else◌, nat_le, nat_lt, slice_index};
 ghost use Rattle.bit_block.specs.Bit.{bit_of};
 ghost use Rattle.bit_block.specs.Raised.{raised};

@@ -1,4 +1,6 @@
 // Packed sets over lent words: a blank is filled, a finished set is read.
+#![tactic(auto)]
+
 pub mod error;
 mod fill;
 mod lookup;
@@ -62,7 +64,7 @@ impl<'a> Blank<'a> {
         Blank {
             words,
             numbers,
-            filled: false,
+            filled: false, // nothing is written yet
         }
     }
 
@@ -81,7 +83,7 @@ impl<'a> Blank<'a> {
         ImmutableBitset {
             words,
             numbers,
-            filled,
+            filled, // an unfilled blank gives a void set
         }
     }
 }
@@ -99,7 +101,7 @@ impl<'a> ImmutableBitset<'a> {
             filled: _,
         } = self;
         Blank {
-            filled: false,
+            filled: false, // what it held is given up
             words,
             numbers,
         }
@@ -129,7 +131,7 @@ impl LevelMasks for ImmutableBitset<'_> {
         if self.filled {
             Some(self.numbers.config)
         } else {
-            None
+            None // void
         }
     }
 
@@ -141,7 +143,7 @@ impl LevelMasks for ImmutableBitset<'_> {
         if self.filled {
             self.numbers.level0
         } else {
-            Mask::zero()
+            Mask::zero() // void: no bit
         }
     }
 

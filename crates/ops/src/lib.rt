@@ -1,4 +1,6 @@
 // Four layers over two sources of any kind, held by value. Each is a source itself, so layers stand on layers.
+#![tactic(auto)]
+
 ghost use Rattle.std.specs.Prelude.{◌≡◌, ℕ, Bool, true, false, not, ◌&&◌, ◌||◌};
 ghost use Rattle.bit_block.specs.Raised.{raised};
 ghost use Rattle.bit_block.specs.Bit.{exclusive};

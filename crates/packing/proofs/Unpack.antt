@@ -186,8 +186,8 @@ module _ (s : Source) (law : Lawful s) where
     pub starts_are : Starts m ws
     starts_are q l = at_s q l ∙ get_or_singles (λ x. four L (4 * x)) (quarter (length L)) q (omega (arith, len_l)) ∙ ap (λ (xs : List ℕ). four xs (4 * q)) (sym take_l)
 
-    up_at : (i : ℕ) → raised m.level0 i ≡ full h i
-    up_at i = ap (λ (f : ℕ → Bool). f i) top
+    up_at_lem : (i : ℕ) → raised m.level0 i ≡ full h i
+    up_at_lem i = ap (λ (f : ℕ → Bool). f i) top
 
     place_is : (i j : ℕ) → word_place m i j ≡ count (full h) i * k1of m + j / 64
     place_is i j = ap (λ (f : ℕ → Bool). count f i * k1of m + j / 64) top
@@ -195,7 +195,7 @@ module _ (s : Source) (law : Lawful s) where
     module _ (i : ℕ) (up : full h i ≡ true) (j : ℕ) (hj : j < k1of m * 64) where
       word_is : get_or ws (word_place m i j) 0 ≡ word_at (h i) (j / 64)
       word_is =
-          at_l (word_place m i j) (place_lt m ws rows_are counts_are i (full_below i up) (up_at i ∙ up) j hj)
+          at_l (word_place m i j) (place_lt m ws rows_are counts_are i (full_below i up) (up_at_lem i ∙ up) j hj)
           ∙ ap (λ (x : ℕ). get_or L x 0) (place_is i j)
           ∙ row_word (k1of m) wide1 small1 i up (j / 64) (omega arith)
 
@@ -222,10 +222,10 @@ module _ (s : Source) (law : Lawful s) where
     held_same i j =
         ⊎_elim
         (λ up. ⊎_elim
-        (λ l. ap₂ (λ (b d : Bool). b && d) (up_at i ∙ up) (ap₂ (λ (b d : Bool). b && d) (lt-ltb j (k1of m * 64) l) (bit_is i up j l)))
+        (λ l. ap₂ (λ (b d : Bool). b && d) (up_at_lem i ∙ up) (ap₂ (λ (b d : Bool). b && d) (lt-ltb j (k1of m * 64) l) (bit_is i up j l)))
         (λ l. and_right (raised m.level0 i) _ (and_left (ltb j (k1of m * 64)) _ (le-ltb j (k1of m * 64) l)) ∙ sym (held_wide i j (omega (arith, wide1))))
         (cases_lt j (k1of m * 64)))
-        (λ no. and_left (raised m.level0 i) _ (up_at i ∙ no) ∙ sym (off (h i j) (full h i) (full_from i j) no))
+        (λ no. and_left (raised m.level0 i) _ (up_at_lem i ∙ no) ∙ sym (off (h i j) (full h i) (full_from i j) no))
         (cases_Bool (full h i))
 
     block_bit : (i j : ℕ) → h i j ≡ true → (t : ℕ) → t < kdof m * 64 → bit_of (get_or ws (block_place m ws i j + t / 64) 0) (t % 64) ≡ s.up2 i j t

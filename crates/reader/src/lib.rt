@@ -1,4 +1,6 @@
 // Readers: what gives bytes one after another.
+#![tactic(auto)]
+
 pub mod fault;
 
 ghost use Rattle.std.specs.Prelude.{◌≡◌, ℕ, List, [], ◌∷◌};

@@ -1,4 +1,6 @@
 // Checks the styles of a book by the commands of a script.
+#![tactic(auto)]
+
 mod answer;
 mod help;
 mod packed;

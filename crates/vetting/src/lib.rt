@@ -1,4 +1,6 @@
 // The rules of what is stored, tested once for every form in which it stands.
+#![tactic(auto)]
+
 ghost use Rattle.std.specs.Prelude.{◌≡◌, ℕ, slice_index};
 ghost use Rattle.bit_block.specs.declared.config.Config.{Config as Conf};
 ghost use Rattle.bit_block.specs.Raised.{raised};

@@ -6,8 +6,8 @@ use Rattle.bit_block.proofs.Places.{sized}
 use Rattle.packing.proofs.LevelStarts.{written_more, written_all}
 use Rattle.packing.proofs.level0_starts.Goals as goal
 
-pub overflow-cast-starts : goal.overflow-cast-starts
-overflow-cast-starts c = omega (arith, c.rank.ensures, count_le (raised c.args.level0) (c.loop-q.q * 64), (sized c.args.width).most)
+pub overflow_cast-starts : goal.overflow_cast-starts
+overflow_cast-starts c = omega (arith, c.rank.ensures, count_le (raised c.args.level0) (c.loop-q.q * 64), (sized c.args.width).most)
 
 pub loop-q-preserved : goal.loop-q-preserved
 loop-q-preserved c = (

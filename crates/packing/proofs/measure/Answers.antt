@@ -8,16 +8,16 @@ use Rattle.packing.proofs.measure.Goals as goal
 pub loop-found-init : goal.loop-found-init
 loop-found-init g c = rowed_none (g.S.LevelMasks.means c.args.s.now) c.zero-level0.result c.zero-rows.result c.zero-level0.ensures c.zero-rows.ensures
 
-pub overflow-cast-d : goal.overflow-cast-d
-overflow-cast-d g c = omega (arith, c.count-ones.ensures, count_le (raised c.row-of-row.result) 256)
+pub overflow_cast-d : goal.overflow_cast-d
+overflow_cast-d g c = omega (arith, c.count_ones.ensures, count_le (raised c.row_of-row.result) 256)
 
-pub overflow-add-d : goal.overflow-add-d
-overflow-add-d g c =
+pub overflow_add-d : goal.overflow_add-d
+overflow_add-d g c =
     omega (
       arith,
-      c.count-ones.ensures,
-      count_le (raised c.row-of-row.result) 256,
-      few (g.S.LevelMasks.means c.args.s.now) (g.S.LevelMasks.lawful c.args.s.now) (raised c.level0-mask-mask.result) c.level0-mask-mask.ensures
+      c.count_ones.ensures,
+      count_le (raised c.row_of-row.result) 256,
+      few (g.S.LevelMasks.means c.args.s.now) (g.S.LevelMasks.lawful c.args.s.now) (raised c.level0_mask-mask.result) c.level0_mask-mask.ensures
           c.loop-found.i c.loop-found.level0 c.loop-found.rows c.loop-found.d c.loop-found.invariant,
     )
 
@@ -27,16 +27,16 @@ loop-found-smaller g c =
 
 pub loop-found-preserved : goal.loop-found-preserved
 loop-found-preserved g c =
-    rowed_more (g.S.LevelMasks.means c.args.s.now) (g.S.LevelMasks.lawful c.args.s.now) (raised c.level0-mask-mask.result) c.level0-mask-mask.ensures
+    rowed_more (g.S.LevelMasks.means c.args.s.now) (g.S.LevelMasks.lawful c.args.s.now) (raised c.level0_mask-mask.result) c.level0_mask-mask.ensures
     c.loop-found.i c.loop-found.level0 c.loop-found.rows c.loop-found.d c.loop-found.invariant c.in-Some.found c.in-Some.ensures
-    c.with-bit-level0.result c.row-of-row.result (not c.is-zero.result) c.count-ones.result
-    (tested_row_lem (g.S.LevelMasks.means c.args.s.now) (g.S.LevelMasks.lawful c.args.s.now) c.in-Some.found (raised c.row-of-row.result) c.row-of-row.ensures c.is-zero.result c.is-zero.ensures.none c.is-zero.ensures.some)
-    c.row-of-row.ensures c.count-ones.ensures c.with-bit-level0.ensures
+    c.with_bit-level0.result c.row_of-row.result (not c.is_zero.result) c.count_ones.result
+    (tested_row_lem (g.S.LevelMasks.means c.args.s.now) (g.S.LevelMasks.lawful c.args.s.now) c.in-Some.found (raised c.row_of-row.result) c.row_of-row.ensures c.is_zero.result c.is_zero.ensures.none c.is_zero.ensures.some)
+    c.row_of-row.ensures c.count_ones.ensures c.with_bit-level0.ensures
 
-pub overflow-cast-result : goal.overflow-cast-result
-overflow-cast-result g c = omega (arith, c.count-ones-2.ensures, count_le (raised c.loop-found.level0) 256)
+pub overflow_cast-result : goal.overflow_cast-result
+overflow_cast-result g c = omega (arith, c.count_ones-2.ensures, count_le (raised c.loop-found.level0) 256)
 
 pub returns : goal.returns
 returns g c =
-    rowed_all (g.S.LevelMasks.means c.args.s.now) (g.S.LevelMasks.lawful c.args.s.now) (raised c.level0-mask-mask.result) c.level0-mask-mask.ensures
-    c.loop-found.i c.loop-found.level0 c.loop-found.rows c.loop-found.d c.loop-found.invariant c.in-default.ensures c.count-ones-2.result c.count-ones-2.ensures
+    rowed_all (g.S.LevelMasks.means c.args.s.now) (g.S.LevelMasks.lawful c.args.s.now) (raised c.level0_mask-mask.result) c.level0_mask-mask.ensures
+    c.loop-found.i c.loop-found.level0 c.loop-found.rows c.loop-found.d c.loop-found.invariant c.in_default.ensures c.count_ones-2.result c.count_ones-2.ensures

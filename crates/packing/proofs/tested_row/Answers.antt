@@ -16,11 +16,11 @@ pub loop-found-preserved : goal.loop-found-preserved
 loop-found-preserved g c =
     let s = g.S.LevelMasks.means c.args.s.now in
     let law = g.S.LevelMasks.lawful c.args.s.now in
-    let small : c.in-Some.found < 256 = omega (arith, law.below1 c.args.i c.in-Some.found (sym (c.level1-mask-mask.ensures c.in-Some.found) ∙ c.in-Some.ensures.1), w1_most s.conf) in (
-      upto_more (raised c.level1-mask-mask.result) (held s c.args.i) (under s law c.args.i (raised c.level1-mask-mask.result) c.level1-mask-mask.ensures)
-          c.loop-found.j c.in-Some.found (raised c.loop-found.row) (raised c.with-bit-row.result) (not c.is-zero.result) small c.in-Some.ensures
-          (tested s law c.args.i c.in-Some.found (raised c.data-mask.result) c.data-mask.ensures c.is-zero.result c.is-zero.ensures.none c.is-zero.ensures.some)
-          c.loop-found.invariant.0 c.with-bit-row.ensures,
+    let small : c.in-Some.found < 256 = omega (arith, law.below1 c.args.i c.in-Some.found (sym (c.level1_mask-mask.ensures c.in-Some.found) ∙ c.in-Some.ensures.1), w1_most s.conf) in (
+      upto_more (raised c.level1_mask-mask.result) (held s c.args.i) (under s law c.args.i (raised c.level1_mask-mask.result) c.level1_mask-mask.ensures)
+          c.loop-found.j c.in-Some.found (raised c.loop-found.row) (raised c.with_bit-row.result) (not c.is_zero.result) small c.in-Some.ensures
+          (tested s law c.args.i c.in-Some.found (raised c.data_mask.result) c.data_mask.ensures c.is_zero.result c.is_zero.ensures.none c.is_zero.ensures.some)
+          c.loop-found.invariant.0 c.with_bit-row.ensures,
       omega (arith, small),
     )
 
@@ -28,5 +28,5 @@ pub returns : goal.returns
 returns g c =
     let s = g.S.LevelMasks.means c.args.s.now in
     let law = g.S.LevelMasks.lawful c.args.s.now in
-    upto_all (raised c.level1-mask-mask.result) (held s c.args.i) (under s law c.args.i (raised c.level1-mask-mask.result) c.level1-mask-mask.ensures)
-    c.loop-found.j (raised c.loop-found.row) c.in-default.ensures c.loop-found.invariant.0
+    upto_all (raised c.level1_mask-mask.result) (held s c.args.i) (under s law c.args.i (raised c.level1_mask-mask.result) c.level1_mask-mask.ensures)
+    c.loop-found.j (raised c.loop-found.row) c.in_default.ensures c.loop-found.invariant.0

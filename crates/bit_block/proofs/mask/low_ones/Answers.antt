@@ -7,8 +7,8 @@ use Rattle.bit_block.proofs.Bits.{bit_past}
 use Rattle.bit_block.proofs.Counting.{ones_low, ones_count, count_past}
 use Rattle.bit_block.proofs.mask.low_ones.Goals as goal
 
-pub overflow-cast-result-else-k-lt64 : goal.overflow-cast-result-else-k-lt64
-overflow-cast-result-else-k-lt64 c = omega (arith, ones-le 64 c.args.word (omega arith))
+pub overflow_cast-result-else-k-lt64 : goal.overflow_cast-result-else-k-lt64
+overflow_cast-result-else-k-lt64 c = omega (arith, ones-le 64 c.args.word (omega arith))
 
 pub returns-then-k-lt64 : goal.returns-then-k-lt64
 returns-then-k-lt64 c =

@@ -4,8 +4,8 @@ use Rattle.bitset_interface.proofs.walk.contains.Goals as goal
 
 pub returns : goal.returns
 returns g c =
-    c.get-bit.ensures
-    ∙ c.data-mask.ensures c.level-indices-i.result.2
+    c.get_bit.ensures
+    ∙ c.data_mask.ensures c.level_indices-i.result.2
     ∙ bit_looked_up (g.S.LevelMasks.means c.args.s.now) (g.S.LevelMasks.lawful c.args.s.now) c.args.p c.in-Some.config c.in-Some.ensures
-    c.level-indices-i.result.0 c.level-indices-i.result.1 c.level-indices-i.result.2
-    c.level-indices-i.ensures.level0 c.level-indices-i.ensures.level1 c.level-indices-i.ensures.bit
+    c.level_indices-i.result.0 c.level_indices-i.result.1 c.level_indices-i.result.2
+    c.level_indices-i.ensures.level0 c.level_indices-i.ensures.level1 c.level_indices-i.ensures.bit

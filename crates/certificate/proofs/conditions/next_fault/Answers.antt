@@ -14,7 +14,7 @@ returns-in-Inside g c =
     ap₂ (λ x y. holds (without (g.A.LevelMasks.means x.now) (g.B.LevelMasks.means y.now)) p) c.new.ensures.first c.new.ensures.second
     ∙ c.new.ensures.held p
     ∙ ap (λ (x : Condition). fault x (g.A.LevelMasks.means c.args.a.now) (g.B.LevelMasks.means c.args.b.now) p) (sym c.in-Inside.is))
-    c.args.p c.next-run.result c.next-run.ensures
+    c.args.p c.next_run.result c.next_run.ensures
 
 pub returns-in-Same : goal.returns-in-Same
 returns-in-Same g c =
@@ -24,4 +24,4 @@ returns-in-Same g c =
     ap₂ (λ x y. holds (one_of (g.A.LevelMasks.means x.now) (g.B.LevelMasks.means y.now)) p) c.new-in-Same.ensures.first c.new-in-Same.ensures.second
     ∙ c.new-in-Same.ensures.held p
     ∙ ap (λ (x : Condition). fault x (g.A.LevelMasks.means c.args.a.now) (g.B.LevelMasks.means c.args.b.now) p) (sym c.in-Same.is))
-    c.args.p c.next-run-in-Same.result c.next-run-in-Same.ensures
+    c.args.p c.next_run-in-Same.result c.next_run-in-Same.ensures

@@ -9,8 +9,8 @@ use Rattle.certificate.proofs.runs.count_held.Goals as goal
 pub loop-run-init : goal.loop-run-init
 loop-run-init g c = (sym (count_none (holds (g.S.LevelMasks.means c.args.s.now))), omega arith)
 
-pub overflow-add-held : goal.overflow-add-held
-overflow-add-held g c =
+pub overflow_add-held : goal.overflow_add-held
+overflow_add-held g c =
     let h = c.in-Some.ensures in
     omega (
       arith,
@@ -35,4 +35,4 @@ loop-run-preserved g c = (
 pub returns : goal.returns
 returns g c =
     c.loop-run.invariant.0
-    ∙ sym (count_past (holds (g.S.LevelMasks.means c.args.s.now)) c.loop-run.at (capacity (g.S.LevelMasks.means c.args.s.now).conf) c.loop-run.invariant.1 c.in-default.ensures)
+    ∙ sym (count_past (holds (g.S.LevelMasks.means c.args.s.now)) c.loop-run.at (capacity (g.S.LevelMasks.means c.args.s.now).conf) c.loop-run.invariant.1 c.in_default.ensures)

@@ -11,9 +11,9 @@ use Rattle.certificate.proofs.Maximal.{run_within, run_small}
 use Rattle.certificate.proofs.Marks.{Part, part_none, part_more, part_all, spanned, run_good, accepted}
 use Rattle.certificate.proofs.runs.mark_all.Goals as goal
 
-pub returns-then-capacity-of : goal.returns-then-capacity-of
-returns-then-capacity-of g c =
-    let e = lt-leb (capacity (g.S.LevelMasks.means c.args.s.now).conf) (capacity (fitting c.args.draft.now.config (length c.args.draft.now.words.now))) (omega (arith, c.if-capacity-of.true, c.capacity-of.ensures, c.capacity-of-2.ensures)) in
+pub returns-then-capacity_of : goal.returns-then-capacity_of
+returns-then-capacity_of g c =
+    let e = lt-leb (capacity (g.S.LevelMasks.means c.args.s.now).conf) (capacity (fitting c.args.draft.now.config (length c.args.draft.now.words.now))) (omega (arith, c.if-capacity_of.true, c.capacity_of.ensures, c.capacity_of-2.ensures)) in
     record {
       refused = sym (ap (λ (b : Bool). unless b bad_range) e);
       added = subst (λ (b : Bool). cond b (Adds (g.S.LevelMasks.means c.args.s.now) c.args.draft.now.words.now c.args.draft.now.words.now) (c.args.draft.now.words.now ≡ c.args.draft.now.words.now)) (sym e) refl;
@@ -24,15 +24,15 @@ returns-then-capacity-of g c =
 pub loop-run-init : goal.loop-run-init
 loop-run-init g c = (omega arith, refl, refl, part_none (g.S.LevelMasks.means c.args.s.now) c.args.draft.now.words.now)
 
-pub returns-in-err-mark : goal.returns-in-err-mark
-returns-in-err-mark g c =
+pub returns-in_err-mark : goal.returns-in_err-mark
+returns-in_err-mark g c =
     absurd (accepted
     (good_range (fitting c.loop-run.draft.config (length c.loop-run.draft.words.now)) c.in-Some.run'.from c.in-Some.run'.to)
-    c.in-err-mark.field-0.0
+    c.in_err-mark.field-0.0
     (run_good (g.S.LevelMasks.means c.args.s.now) (g.S.LevelMasks.lawful c.args.s.now) c.loop-run.at c.in-Some.run' c.in-Some.ensures
     c.loop-run.draft.config c.args.draft.now.config c.loop-run.draft.words.now c.args.draft.now.words.now c.loop-run.invariant.1 c.loop-run.invariant.3.long
-    (omega (arith, c.if-capacity-of.false, c.capacity-of.ensures, c.capacity-of-2.ensures)))
-    c.in-err-mark.ensures.refused)
+    (omega (arith, c.if-capacity_of.false, c.capacity_of.ensures, c.capacity_of-2.ensures)))
+    c.in_err-mark.ensures.refused)
 
 pub loop-run-smaller : goal.loop-run-smaller
 loop-run-smaller g c =
@@ -46,7 +46,7 @@ loop-run-preserved g c =
     let o = fitting c.loop-run.draft.config (length c.loop-run.draft.words.now) in
     let ok = run_good (g.S.LevelMasks.means c.args.s.now) (g.S.LevelMasks.lawful c.args.s.now) c.loop-run.at r h
     c.loop-run.draft.config c.args.draft.now.config c.loop-run.draft.words.now c.args.draft.now.words.now c.loop-run.invariant.1 c.loop-run.invariant.3.long
-    (omega (arith, c.if-capacity-of.false, c.capacity-of.ensures, c.capacity-of-2.ensures)) in (
+    (omega (arith, c.if-capacity_of.false, c.capacity_of.ensures, c.capacity_of-2.ensures)) in (
       run_within (g.S.LevelMasks.means c.args.s.now) (g.S.LevelMasks.lawful c.args.s.now) c.loop-run.at r h,
       c.mark.ensures.config ∙ c.loop-run.invariant.1,
       c.mark.ensures.lender ∙ c.loop-run.invariant.2,
@@ -56,11 +56,11 @@ loop-run-preserved g c =
 
 pub returns : goal.returns
 returns g c =
-    let e = le-leb (capacity (g.S.LevelMasks.means c.args.s.now).conf) (capacity (fitting c.args.draft.now.config (length c.args.draft.now.words.now))) (omega (arith, c.if-capacity-of.false, c.capacity-of.ensures, c.capacity-of-2.ensures)) in
+    let e = le-leb (capacity (g.S.LevelMasks.means c.args.s.now).conf) (capacity (fitting c.args.draft.now.config (length c.args.draft.now.words.now))) (omega (arith, c.if-capacity_of.false, c.capacity_of.ensures, c.capacity_of-2.ensures)) in
     record {
       refused = sym (ap (λ (b : Bool). unless b bad_range) e);
       added = subst (λ (b : Bool). cond b (Adds (g.S.LevelMasks.means c.args.s.now) c.args.draft.now.words.now c.loop-run.draft.words.now) (c.loop-run.draft.words.now ≡ c.args.draft.now.words.now)) (sym e)
-          (part_all (g.S.LevelMasks.means c.args.s.now) c.args.draft.now.words.now c.loop-run.at c.loop-run.draft.words.now c.in-default.ensures c.loop-run.invariant.3);
+          (part_all (g.S.LevelMasks.means c.args.s.now) c.args.draft.now.words.now c.loop-run.at c.loop-run.draft.words.now c.in_default.ensures c.loop-run.invariant.3);
       config = c.loop-run.invariant.1;
       lender = c.loop-run.invariant.2;
     }

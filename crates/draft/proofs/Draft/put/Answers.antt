@@ -6,11 +6,11 @@ use Rattle.bitset_interface.proofs.Caps.{capacity_most}
 use Rattle.draft.proofs.Marked.{room}
 use Rattle.draft.proofs.Draft.put.Goals as goal
 
-pub write-span-requires : goal.write-span-requires
-write-span-requires c =
+pub write_span-requires : goal.write_span-requires
+write_span-requires c =
     let f = c.args.self.now.config in
     let n = length c.args.self.now.words.now in
-    let e = c.capacity-of-end.ensures ∙ ap₂ (λ (g : Config) (xs : List ℕ). capacity (fitting g (length xs))) c.view.ensures.config c.view.ensures.words in
+    let e = c.capacity_of-end.ensures ∙ ap₂ (λ (g : Config) (xs : List ℕ). capacity (fitting g (length xs))) c.view.ensures.config c.view.ensures.words in
     record {
       within = omega (arith, e, room f n, c.if-to-end.false);
       small = omega (arith, e, capacity_most (fitting f n), c.if-to-end.false);

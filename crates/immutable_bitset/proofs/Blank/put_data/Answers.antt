@@ -8,16 +8,16 @@ use Rattle.immutable_bitset.proofs.Blank.put_data.Goals as goal
 pub loop-row-init : goal.loop-row-init
 loop-row-init g c = (c.requires.clear, refl, wrote_as (wrote_none c.args.self.now.words.now c.args.at (omega arith)) (sym (gather_none _)) refl, omega arith)
 
-pub offset-bounds-found-row : goal.offset-bounds-found-row
-offset-bounds-found-row g c =
+pub offset_bounds-found-row : goal.offset_bounds-found-row
+offset_bounds-found-row g c =
     omega (arith, row_below (g.S.LevelMasks.means c.args.s.now) (g.S.LevelMasks.lawful c.args.s.now) c.args.k (raised c.args.found.now.level0) c.requires.measured.top c.loop-row.i c.in-Some.row c.in-Some.ensures)
 
 pub bounds-found-row : goal.bounds-found-row
 bounds-found-row g c =
     row_below (g.S.LevelMasks.means c.args.s.now) (g.S.LevelMasks.lawful c.args.s.now) c.args.k (raised c.args.found.now.level0) c.requires.measured.top c.loop-row.i c.in-Some.row c.in-Some.ensures
 
-pub put-row-next-requires : goal.put-row-next-requires
-put-row-next-requires g c = record {
+pub put_row-next-requires : goal.put_row-next-requires
+put_row-next-requires g c = record {
   small = c.requires.small;
   is = c.requires.measured.row c.in-Some.row _
       (row_below (g.S.LevelMasks.means c.args.s.now) (g.S.LevelMasks.lawful c.args.s.now) c.args.k (raised c.args.found.now.level0) c.requires.measured.top c.loop-row.i c.in-Some.row c.in-Some.ensures);
@@ -26,16 +26,16 @@ put-row-next-requires g c = record {
   clear = c.loop-row.invariant.0;
 }
 
-pub overflow-add-i : goal.overflow-add-i
-overflow-add-i g c =
+pub overflow_add-i : goal.overflow_add-i
+overflow_add-i g c =
     omega (arith, row_below (g.S.LevelMasks.means c.args.s.now) (g.S.LevelMasks.lawful c.args.s.now) c.args.k (raised c.args.found.now.level0) c.requires.measured.top c.loop-row.i c.in-Some.row c.in-Some.ensures)
 
 pub loop-row-preserved : goal.loop-row-preserved
 loop-row-preserved g c = (
-  c.put-row-next.ensures.clear,
-  c.put-row-next.ensures.lender ∙ c.loop-row.invariant.1,
+  c.put_row-next.ensures.clear,
+  c.put_row-next.ensures.lender ∙ c.loop-row.invariant.1,
   data_more (g.S.LevelMasks.means c.args.s.now) (g.S.LevelMasks.lawful c.args.s.now) c.args.k (raised c.args.found.now.level0) c.requires.measured.top c.loop-row.i c.in-Some.row c.in-Some.ensures
-      c.loop-row.invariant.2 c.put-row-next.ensures.wrote,
+      c.loop-row.invariant.2 c.put_row-next.ensures.wrote,
   omega (arith, row_below (g.S.LevelMasks.means c.args.s.now) (g.S.LevelMasks.lawful c.args.s.now) c.args.k (raised c.args.found.now.level0) c.requires.measured.top c.loop-row.i c.in-Some.row c.in-Some.ensures),
 )
 
@@ -43,5 +43,5 @@ pub returns : goal.returns
 returns g c = record {
   lender = c.loop-row.invariant.1;
   clear = c.loop-row.invariant.0;
-  wrote = data_all (g.S.LevelMasks.means c.args.s.now) (g.S.LevelMasks.lawful c.args.s.now) c.args.k (raised c.args.found.now.level0) c.requires.measured.top c.loop-row.i c.in-default.ensures c.loop-row.invariant.3 c.loop-row.invariant.2;
+  wrote = data_all (g.S.LevelMasks.means c.args.s.now) (g.S.LevelMasks.lawful c.args.s.now) c.args.k (raised c.args.found.now.level0) c.requires.measured.top c.loop-row.i c.in_default.ensures c.loop-row.invariant.3 c.loop-row.invariant.2;
 }

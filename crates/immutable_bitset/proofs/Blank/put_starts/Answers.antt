@@ -13,8 +13,8 @@ loop-q-init c = (
   sym (before-none (take c.args.len c.args.self.now.words.now)),
 )
 
-pub starts-from-word-requires : goal.starts-from-word-requires
-starts-from-word-requires c =
+pub starts_from-word-requires : goal.starts_from-word-requires
+starts_from-word-requires c =
     let v = c.loop-q.invariant in
     let e : take c.args.len c.loop-q.self.words.now ≡ take c.args.len c.args.self.now.words.now = wrote_below v.2 in
     record {
@@ -34,7 +34,7 @@ loop-q-preserved c =
     let four_more : 4 * q + 4 ≡ 4 * (q + 1) = omega arith in (
       v.0,
       v.1,
-      wrote_as (wrote_one v.2 c.starts-from-word.result.0 short)
-          (ap (λ (w : ℕ). start_words_to xs q ++ w ∷ []) (c.starts-from-word.ensures.word ∙ ap (λ (l : List ℕ). four l (4 * q)) e) ∙ sym (gather_more _ q)) (omega arith),
-      c.starts-from-word.ensures.next ∙ ap (λ (l : List ℕ). before l (4 * q + 4)) e ∙ ap (before xs) four_more,
+      wrote_as (wrote_one v.2 c.starts_from-word.result.0 short)
+          (ap (λ (w : ℕ). start_words_to xs q ++ w ∷ []) (c.starts_from-word.ensures.word ∙ ap (λ (l : List ℕ). four l (4 * q)) e) ∙ sym (gather_more _ q)) (omega arith),
+      c.starts_from-word.ensures.next ∙ ap (λ (l : List ℕ). before l (4 * q + 4)) e ∙ ap (before xs) four_more,
     )

@@ -9,6 +9,6 @@ returns c =
     let m : ℕ = c.args.m in
     let e : m + 3 + 1 ≡ m + 4 = omega arith in
     record {
-      word = omega (arith, c.next-start-a.ensures.start, c.next-start-b.ensures.start, c.next-start-c.ensures.start, c.next-start-d.ensures.start);
-      next = c.next-start-d.ensures.next ∙ ap (before xs) e;
+      word = omega (arith, c.next_start-a.ensures.start, c.next_start-b.ensures.start, c.next_start-c.ensures.start, c.next_start-d.ensures.start);
+      next = c.next_start-d.ensures.next ∙ ap (before xs) e;
     }

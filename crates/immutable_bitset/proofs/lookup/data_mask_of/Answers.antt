@@ -13,9 +13,9 @@ on : (b : Bool) (x p : ℕ) → Some x ≡ cond b (Some p) None → (b ≡ true)
 on true x p e = (cc, cc)
 on false x p e = let z : ◌≡◌ {A = ℕ} 0 1 = cc in absurd (omega arith)
 
-pub read-mask-requires : goal.read-mask-requires
+pub read_mask-requires : goal.read_mask-requires
 unfolding kdof
-read-mask-requires c = c.in-Some.ensures.fits
+read_mask-requires c = c.in-Some.ensures.fits
 
 pub returns-in-None : goal.returns-in-None
 returns-in-None c t =
@@ -30,6 +30,6 @@ returns-in-Some c t =
     let m = c.args.numbers.now in
     let ws = c.args.words.now in
     let o = on (held_at m ws c.args.i c.args.j) c.in-Some.at (block_place m ws c.args.i c.args.j) c.in-Some.ensures.is in
-    c.read-mask.ensures t
+    c.read_mask.ensures t
     ∙ ap (λ (x : ℕ). bit_from ws x (kdof m) t) o.1
     ∙ ap (λ (b : Bool). b && bit_from ws (block_place m ws c.args.i c.args.j) (kdof m) t) (sym o.0)

@@ -7,93 +7,93 @@ use Rattle.packing.proofs.Lookups.{not_row, not_wide, not_bit, bit_yes, bit_no}
 use Rattle.immutable_bitset.proofs.Places.{none, few, all_there, at, here, place_fits, answer}
 use Rattle.immutable_bitset.proofs.lookup.place_of.Goals as goal
 
-pub returns-then-not-get-bit : goal.returns-then-not-get-bit
-returns-then-not-get-bit c =
-    record { fits = tt; is = none c.args.numbers.now c.args.words.now c.args.i c.args.j (not_row c.args.numbers.now c.args.words.now c.args.i c.args.j (sym c.if-not-get-bit.ensures)) }
+pub returns-then-not-get_bit : goal.returns-then-not-get_bit
+returns-then-not-get_bit c =
+    record { fits = tt; is = none c.args.numbers.now c.args.words.now c.args.i c.args.j (not_row c.args.numbers.now c.args.words.now c.args.i c.args.j (sym c.if-not-get_bit.ensures)) }
 
 pub returns-then-j-bits : goal.returns-then-j-bits
 returns-then-j-bits c =
     record { fits = tt; is = none c.args.numbers.now c.args.words.now c.args.i c.args.j (not_wide c.args.numbers.now c.args.words.now c.args.i c.args.j (omega (arith, c.if-j-bits.true, c.bits.ensures, (k1-whole c.args.numbers.now).0))) }
 
-pub row-rank-requires : goal.row-rank-requires
-row-rank-requires c = record { sound = c.requires; raised = sym c.if-not-get-bit.ensures }
+pub row_rank-requires : goal.row_rank-requires
+row_rank-requires c = record { sound = c.requires; raised = sym c.if-not-get_bit.ensures }
 
 -- the word stands within the level-1 words, which are few
-within : (c : goal.After-level1-words) → (c.row-rank.result * c.level1-words.result + c.args.j / 64 < len_of c.args.numbers.now) × (len_of c.args.numbers.now ≤ 1024)
+within : (c : goal.After-level1_words) → (c.row_rank.result * c.level1_words.result + c.args.j / 64 < len_of c.args.numbers.now) × (len_of c.args.numbers.now ≤ 1024)
 within c = (
-  here c.args.numbers.now c.args.words.now c.requires c.args.i (sym c.if-not-get-bit.ensures) c.args.j (omega (arith, c.if-j-bits.false, c.bits.ensures, (k1-whole c.args.numbers.now).0))
-      c.row-rank.result c.level1-words.result c.row-rank.ensures c.level1-words.ensures,
-  few c.args.numbers.now c.args.words.now c.requires c.args.i (sym c.if-not-get-bit.ensures),
+  here c.args.numbers.now c.args.words.now c.requires c.args.i (sym c.if-not-get_bit.ensures) c.args.j (omega (arith, c.if-j-bits.false, c.bits.ensures, (k1-whole c.args.numbers.now).0))
+      c.row_rank.result c.level1_words.result c.row_rank.ensures c.level1_words.ensures,
+  few c.args.numbers.now c.args.words.now c.requires c.args.i (sym c.if-not-get_bit.ensures),
 )
 
-pub overflow-mul-m : goal.overflow-mul-m
-overflow-mul-m c = omega (arith, within c)
+pub overflow_mul-m : goal.overflow_mul-m
+overflow_mul-m c = omega (arith, within c)
 
-pub overflow-add-m : goal.overflow-add-m
-overflow-add-m c = omega (arith, within c)
+pub overflow_add-m : goal.overflow_add-m
+overflow_add-m c = omega (arith, within c)
 
-pub offset-bounds-words-m : goal.offset-bounds-words-m
-offset-bounds-words-m c =
+pub offset_bounds-words-m : goal.offset_bounds-words-m
+offset_bounds-words-m c =
     omega (
       arith,
-      here c.args.numbers.now c.args.words.now c.requires c.args.i (sym c.if-not-get-bit.ensures) c.args.j (omega (arith, c.if-j-bits.false, c.bits.ensures, (k1-whole c.args.numbers.now).0))
-          c.row-rank.result c.level1-words.result c.row-rank.ensures c.level1-words.ensures,
-      few c.args.numbers.now c.args.words.now c.requires c.args.i (sym c.if-not-get-bit.ensures),
+      here c.args.numbers.now c.args.words.now c.requires c.args.i (sym c.if-not-get_bit.ensures) c.args.j (omega (arith, c.if-j-bits.false, c.bits.ensures, (k1-whole c.args.numbers.now).0))
+          c.row_rank.result c.level1_words.result c.row_rank.ensures c.level1_words.ensures,
+      few c.args.numbers.now c.args.words.now c.requires c.args.i (sym c.if-not-get_bit.ensures),
     )
 
 pub bounds-words-m : goal.bounds-words-m
 bounds-words-m c =
     omega (
       arith,
-      here c.args.numbers.now c.args.words.now c.requires c.args.i (sym c.if-not-get-bit.ensures) c.args.j (omega (arith, c.if-j-bits.false, c.bits.ensures, (k1-whole c.args.numbers.now).0))
-          c.row-rank.result c.level1-words.result c.row-rank.ensures c.level1-words.ensures,
-      all_there c.args.numbers.now c.args.words.now c.requires c.args.i (sym c.if-not-get-bit.ensures),
+      here c.args.numbers.now c.args.words.now c.requires c.args.i (sym c.if-not-get_bit.ensures) c.args.j (omega (arith, c.if-j-bits.false, c.bits.ensures, (k1-whole c.args.numbers.now).0))
+          c.row_rank.result c.level1_words.result c.row_rank.ensures c.level1_words.ensures,
+      all_there c.args.numbers.now c.args.words.now c.requires c.args.i (sym c.if-not-get_bit.ensures),
     )
 
 pub returns-then-word-j-ne1 : goal.returns-then-word-j-ne1
 returns-then-word-j-ne1 c =
     let m = c.args.numbers.now in
     let ws = c.args.words.now in
-    let p : ℕ = c.row-rank.result * c.level1-words.result + c.args.j / 64 in
-    let e = at m ws c.requires c.args.i (sym c.if-not-get-bit.ensures) c.args.j (omega (arith, c.if-j-bits.false, c.bits.ensures, (k1-whole m).0)) c.row-rank.result c.level1-words.result c.row-rank.ensures c.level1-words.ensures in
+    let p : ℕ = c.row_rank.result * c.level1_words.result + c.args.j / 64 in
+    let e = at m ws c.requires c.args.i (sym c.if-not-get_bit.ensures) c.args.j (omega (arith, c.if-j-bits.false, c.bits.ensures, (k1-whole m).0)) c.row_rank.result c.level1_words.result c.row_rank.ensures c.level1_words.ensures in
     record { fits = tt; is = none m ws c.args.i c.args.j (not_bit m ws c.args.i c.args.j (ap (λ (x : ℕ). bit_of (get_or ws x 0) (c.args.j % 64)) (sym e) ∙ bit_no (get_or ws p 0) (c.args.j % 64) c.if-word-j-ne1.true)) }
 
-pub start-at-requires : goal.start-at-requires
-start-at-requires c =
+pub start_at-requires : goal.start_at-requires
+start_at-requires c =
     record {
       sound = c.requires;
-      here = here c.args.numbers.now c.args.words.now c.requires c.args.i (sym c.if-not-get-bit.ensures) c.args.j (omega (arith, c.if-j-bits.false, c.bits.ensures, (k1-whole c.args.numbers.now).0))
-          c.row-rank.result c.level1-words.result c.row-rank.ensures c.level1-words.ensures;
+      here = here c.args.numbers.now c.args.words.now c.requires c.args.i (sym c.if-not-get_bit.ensures) c.args.j (omega (arith, c.if-j-bits.false, c.bits.ensures, (k1-whole c.args.numbers.now).0))
+          c.row_rank.result c.level1_words.result c.row_rank.ensures c.level1_words.ensures;
     }
 
-pub overflow-add-rank : goal.overflow-add-rank
-overflow-add-rank c = omega (arith, c.start-at.ensures.small, c.low-ones.ensures, count_le (bit_of (get_or c.args.words.now (c.row-rank.result * c.level1-words.result + c.args.j / 64) 0)) (c.args.j % 64))
+pub overflow_add-rank : goal.overflow_add-rank
+overflow_add-rank c = omega (arith, c.start_at.ensures.small, c.low_ones.ensures, count_le (bit_of (get_or c.args.words.now (c.row_rank.result * c.level1_words.result + c.args.j / 64) 0)) (c.args.j % 64))
 
-pub overflow-mul-result : goal.overflow-mul-result
-overflow-mul-result c =
-    let few-below = count_le (bit_of (get_or c.args.words.now (c.row-rank.result * c.level1-words.result + c.args.j / 64) 0)) (c.args.j % 64) in
-    omega (arith, mul-le (c.start-at.result + c.low-ones.result) c.data-words.result 65600 4 (omega (arith, c.start-at.ensures.small, c.low-ones.ensures, few-below)) (omega (arith, c.data-words.ensures, (kd-whole c.args.numbers.now).1)))
+pub overflow_mul-result : goal.overflow_mul-result
+overflow_mul-result c =
+    let few-below = count_le (bit_of (get_or c.args.words.now (c.row_rank.result * c.level1_words.result + c.args.j / 64) 0)) (c.args.j % 64) in
+    omega (arith, mul-le (c.start_at.result + c.low_ones.result) c.data_words.result 65600 4 (omega (arith, c.start_at.ensures.small, c.low_ones.ensures, few-below)) (omega (arith, c.data_words.ensures, (kd-whole c.args.numbers.now).1)))
 
-pub overflow-add-result-3 : goal.overflow-add-result-3
-overflow-add-result-3 c =
-    let few-below = count_le (bit_of (get_or c.args.words.now (c.row-rank.result * c.level1-words.result + c.args.j / 64) 0)) (c.args.j % 64) in
+pub overflow_add-result-3 : goal.overflow_add-result-3
+overflow_add-result-3 c =
+    let few-below = count_le (bit_of (get_or c.args.words.now (c.row_rank.result * c.level1_words.result + c.args.j / 64) 0)) (c.args.j % 64) in
     omega (
       arith,
-      mul-le (c.start-at.result + c.low-ones.result) c.data-words.result 65600 4 (omega (arith, c.start-at.ensures.small, c.low-ones.ensures, few-below)) (omega (arith, c.data-words.ensures, (kd-whole c.args.numbers.now).1)),
-      c.level1-len-len.ensures,
-      few c.args.numbers.now c.args.words.now c.requires c.args.i (sym c.if-not-get-bit.ensures),
+      mul-le (c.start_at.result + c.low_ones.result) c.data_words.result 65600 4 (omega (arith, c.start_at.ensures.small, c.low_ones.ensures, few-below)) (omega (arith, c.data_words.ensures, (kd-whole c.args.numbers.now).1)),
+      c.level1_len-len.ensures,
+      few c.args.numbers.now c.args.words.now c.requires c.args.i (sym c.if-not-get_bit.ensures),
     )
 
 pub returns : goal.returns
 returns c =
     let m = c.args.numbers.now in
     let ws = c.args.words.now in
-    let up = sym c.if-not-get-bit.ensures in
+    let up = sym c.if-not-get_bit.ensures in
     let hj : c.args.j < k1of m * 64 = omega (arith, c.if-j-bits.false, c.bits.ensures, (k1-whole m).0) in
-    let bit = bit_yes (get_or ws (c.row-rank.result * c.level1-words.result + c.args.j / 64) 0) (c.args.j % 64) c.if-word-j-ne1.false in
+    let bit = bit_yes (get_or ws (c.row_rank.result * c.level1_words.result + c.args.j / 64) 0) (c.args.j % 64) c.if-word-j-ne1.false in
     record {
-      fits = place_fits m ws c.requires c.args.i up c.args.j hj c.row-rank.result c.level1-words.result c.row-rank.ensures c.level1-words.ensures (λ t. (c.type-inv.words t).fits) bit
-          c.start-at.result c.low-ones.result c.data-words.result c.level1-len-len.result c.start-at.ensures.is c.low-ones.ensures c.data-words.ensures c.level1-len-len.ensures;
-      is = answer m ws c.requires c.args.i up c.args.j hj c.row-rank.result c.level1-words.result c.row-rank.ensures c.level1-words.ensures (λ t. (c.type-inv.words t).fits) bit
-          c.start-at.result c.low-ones.result c.data-words.result c.level1-len-len.result c.start-at.ensures.is c.low-ones.ensures c.data-words.ensures c.level1-len-len.ensures;
+      fits = place_fits m ws c.requires c.args.i up c.args.j hj c.row_rank.result c.level1_words.result c.row_rank.ensures c.level1_words.ensures (λ t. (c.type_inv.words t).fits) bit
+          c.start_at.result c.low_ones.result c.data_words.result c.level1_len-len.result c.start_at.ensures.is c.low_ones.ensures c.data_words.ensures c.level1_len-len.ensures;
+      is = answer m ws c.requires c.args.i up c.args.j hj c.row_rank.result c.level1_words.result c.row_rank.ensures c.level1_words.ensures (λ t. (c.type_inv.words t).fits) bit
+          c.start_at.result c.low_ones.result c.data_words.result c.level1_len-len.result c.start_at.ensures.is c.low_ones.ensures c.data_words.ensures c.level1_len-len.ensures;
     }

@@ -20,8 +20,8 @@ start_is m wide starts i up =
 pub bounds-numbers-i : goal.bounds-numbers-i
 bounds-numbers-i c = omega (arith, c.requires.sound.wide c.args.i c.requires.raised, (sized c.args.numbers.now.config.level0).most)
 
-pub overflow-add-result : goal.overflow-add-result
-overflow-add-result c =
+pub overflow_add-result : goal.overflow_add-result
+overflow_add-result c =
     let m = c.args.numbers.now in
     omega (
       arith,
@@ -29,11 +29,11 @@ overflow-add-result c =
       count_le (raised m.level0) (c.args.i / 64 * 64),
       c.requires.sound.wide c.args.i c.requires.raised,
       (sized m.config.level0).most,
-      c.low-ones.ensures,
+      c.low_ones.ensures,
       count_le (bit_of (get_or m.level0.words (c.args.i / 64) 0)) (c.args.i % 64),
     )
 
 pub returns : goal.returns
 returns c =
     let m = c.args.numbers.now in
-    omega (arith, start_is m c.requires.sound.wide c.requires.sound.starts0 c.args.i c.requires.raised, c.low-ones.ensures, rank_at m.level0 c.args.i)
+    omega (arith, start_is m c.requires.sound.wide c.requires.sound.starts0 c.args.i c.requires.raised, c.low_ones.ensures, rank_at m.level0 c.args.i)

@@ -8,8 +8,8 @@ use Rattle.packing.proofs.Starts.{start_in, start_small, field_is, fits_take}
 use Rattle.packing.proofs.Lookups.{len_fits, len_most}
 use Rattle.immutable_bitset.proofs.lookup.start_at.Goals as goal
 
-pub bounds-words-level1-len : goal.bounds-words-level1-len
-bounds-words-level1-len c = omega (arith, c.level1-len.ensures, c.requires.here, c.requires.sound.counts.1)
+pub bounds-words-level1_len : goal.bounds-words-level1_len
+bounds-words-level1_len c = omega (arith, c.level1_len.ensures, c.requires.here, c.requires.sound.counts.1)
 
 pub returns : goal.returns
 returns c =
@@ -20,14 +20,14 @@ returns c =
     let m : ℕ = c.args.m in
     let h : n ≤ length ws = len_fits c.args.numbers.now ws s.rows s.counts in
     let long : length L ≡ n = length-take-le n ws h in
-    let small : (x : ℕ) → start L x < 65536 = start_small L (fits_take ws n (λ t. (c.type-inv.words t).fits) h) (omega (arith, long, len_most c.args.numbers.now ws s.rows s.counts)) in
-    let word : get_or ws (c.level1-len.result + m / 4) 0 ≡ four L (4 * (m / 4)) = ap (λ (x : ℕ). get_or ws (x + m / 4) 0) c.level1-len.ensures ∙ s.starts (m / 4) (omega (arith, c.requires.here)) in
+    let small : (x : ℕ) → start L x < 65536 = start_small L (fits_take ws n (λ t. (c.type_inv.words t).fits) h) (omega (arith, long, len_most c.args.numbers.now ws s.rows s.counts)) in
+    let word : get_or ws (c.level1_len.result + m / 4) 0 ≡ four L (4 * (m / 4)) = ap (λ (x : ℕ). get_or ws (x + m / 4) 0) c.level1_len.ensures ∙ s.starts (m / 4) (omega (arith, c.requires.here)) in
     let split : 4 * (m / 4) + m % 4 ≡ m = omega arith in
     record {
-      is = and_mask (get_or ws (c.level1-len.result + m / 4) 0 / 2 ^ (48 - 16 * (m % 4))) 16
+      is = and_mask (get_or ws (c.level1_len.result + m / 4) 0 / 2 ^ (48 - 16 * (m % 4))) 16
           ∙ ap (λ (x : ℕ). x / 2 ^ (48 - 16 * (m % 4)) % 65536) word
           ∙ field_is L (4 * (m / 4)) (m % 4) (mod_below m 4 (omega arith)) small
           ∙ ap (start L) split
           ∙ start_in L m (omega (arith, long, c.requires.here));
-      small = omega (arith, and_le_r (get_or ws (c.level1-len.result + m / 4) 0 / 2 ^ (48 - 16 * (m % 4))) 65535);
+      small = omega (arith, and_le_r (get_or ws (c.level1_len.result + m / 4) 0 / 2 ^ (48 - 16 * (m % 4))) 65535);
     }

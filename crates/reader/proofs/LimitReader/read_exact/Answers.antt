@@ -10,10 +10,10 @@ use Rattle.reader.proofs.LimitReader.read_exact.Goals as goal
 pub returns-then-self-n : goal.returns-then-self-n
 returns-then-self-n g c = (omega (arith, length-take c.args.self.now.left (g.R.Reader.means c.args.self.now.inner).front.bytes), sym (cond-true _ _ _ (lt-ltb _ _ c.if-self-n.true)), refl, refl)
 
-pub returns-in-err-read-exact : goal.returns-in-err-read-exact
-returns-in-err-read-exact g c =
-    let p = err_from_is_err_and c.from-residual.result c.from-residual.ensures.1 in
-    let h = c.in-err-read-exact.ensures in
+pub returns-in_err-read_exact : goal.returns-in_err-read_exact
+returns-in_err-read_exact g c =
+    let p = err_from_is_err_and c.from_residual.result c.from_residual.ensures.1 in
+    let h = c.in_err-read_exact.ensures in
     let m : ℕ = c.args.self.now.left in
     rw (p.1, p.2) (
       omega (arith, h.0, length-take m (g.R.Reader.means c.args.self.now.inner).front.bytes),
@@ -24,7 +24,7 @@ returns-in-err-read-exact g c =
 
 pub returns : goal.returns
 returns g c =
-    let h = c.in-ok-read-exact.ensures in
+    let h = c.in_ok-read_exact.ensures in
     let m : ℕ = c.args.self.now.left in
     let n : ℕ = length c.args.buf.now in
     let s : Stream = g.R.Reader.means c.args.self.now.inner in (

@@ -7,8 +7,8 @@ use Rattle.serialization.proofs.fields.skip_padding.Goals as goal
 
 pub returns : goal.returns
 returns g c =
-    let k : ℕ = c.padding-for.result in
+    let k : ℕ = c.padding_for.result in
     let s : Stream = g.R.Reader.means c.args.reader.now in
-    let t : Stream = g.R.Reader.means c.read-exact.new.self in
-    subst (λ (n : ℕ). Took (one n ∷ []) s (faulted c.read-exact.result) t) c.padding-for.ensures.is
-    (took_any k s t (take k (replicate 32 0)) c.read-exact.new.buf c.read-exact.result (length-take-le k (replicate 32 0) (omega (arith, c.padding-for.ensures.small))) c.read-exact.ensures)
+    let t : Stream = g.R.Reader.means c.read_exact.new.self in
+    subst (λ (n : ℕ). Took (one n ∷ []) s (faulted c.read_exact.result) t) c.padding_for.ensures.is
+    (took_any k s t (take k (replicate 32 0)) c.read_exact.new.buf c.read_exact.result (length-take-le k (replicate 32 0) (omega (arith, c.padding_for.ensures.small))) c.read_exact.ensures)

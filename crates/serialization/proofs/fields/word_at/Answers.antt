@@ -3,4 +3,4 @@ use Rattle.serialization.proofs.Requests.{word_there}
 use Rattle.serialization.proofs.fields.word_at.Goals as goal
 
 pub returns : goal.returns
-returns c = c.from-le-bytes.ensures ∙ word_there c.args.at c.args.bytes.now c.requires
+returns c = c.from_le_bytes.ensures ∙ word_there c.args.at c.args.bytes.now c.requires

@@ -6,8 +6,8 @@ use Rattle.serialization.proofs.layout.padding_for.Goals as goal
 pub returns : goal.returns
 unfolding padding
 returns c =
-    let k : ℕ = c.mask-size-size.result in
+    let k : ℕ = c.mask_size-size.result in
     record {
-      is = ap (λ (n : ℕ). (n - c.args.at % n) % n) c.mask-size-size.ensures.is;
-      small = omega (arith, c.mask-size-size.ensures.small, mod_below (k - c.args.at % k) k c.mask-size-size.ensures.some);
+      is = ap (λ (n : ℕ). (n - c.args.at % n) % n) c.mask_size-size.ensures.is;
+      small = omega (arith, c.mask_size-size.ensures.small, mod_below (k - c.args.at % k) k c.mask_size-size.ensures.some);
     }

@@ -9,4 +9,4 @@ returns c =
     let a : ℕ = c.args.at in
     let xs : List ℕ = c.args.buffer.now in
     let ys : List ℕ = c.args.bytes.now in
-    subst (λ (zs : List ℕ). Wrote xs (put_mid a (a + length ys - a) xs zs) a ys (a + length ys)) (sym c.copy-from-slice.ensures.after) (wrote_mid a xs ys c.requires)
+    subst (λ (zs : List ℕ). Wrote xs (put_mid a (a + length ys - a) xs zs) a ys (a + length ys)) (sym c.copy_from_slice.ensures.after) (wrote_mid a xs ys c.requires)

@@ -9,9 +9,9 @@ loop-run-preserved g c =
     run_pushed (fault c.args.condition (g.A.LevelMasks.means c.args.a.now) (g.B.LevelMasks.means c.args.b.now))
     c.loop-run.at (vec_items c.loop-run.found) c.loop-run.invariant
     c.in-Some.run' c.in-Some.ensures (vec_items c.push.new.self)
-    (pushed (c.in-Some.run' ∷ []) refl c.in-ok-push.was c.push.ensures.items)
+    (pushed (c.in-Some.run' ∷ []) refl c.in_ok-push.was c.push.ensures.items)
 
 pub returns : goal.returns
 returns g c =
     run_last (fault c.args.condition (g.A.LevelMasks.means c.args.a.now) (g.B.LevelMasks.means c.args.b.now))
-    c.loop-run.at (vec_items c.loop-run.found) c.loop-run.invariant c.in-default.ensures
+    c.loop-run.at (vec_items c.loop-run.found) c.loop-run.invariant c.in_default.ensures

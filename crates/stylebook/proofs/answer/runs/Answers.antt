@@ -8,8 +8,8 @@ pub loop-run-preserved : goal.loop-run-preserved
 loop-run-preserved g c =
     run_pushed (holds (g.S.LevelMasks.means c.args.set.now)) c.loop-run.at (vec_items c.loop-run.found) c.loop-run.invariant
     c.in-Some.run' c.in-Some.ensures (vec_items c.push.new.self)
-    (pushed (c.in-Some.run' ∷ []) refl c.in-ok-push.was c.push.ensures.items)
+    (pushed (c.in-Some.run' ∷ []) refl c.in_ok-push.was c.push.ensures.items)
 
 pub returns : goal.returns
 returns g c =
-    run_last (holds (g.S.LevelMasks.means c.args.set.now)) c.loop-run.at (vec_items c.loop-run.found) c.loop-run.invariant c.in-default.ensures
+    run_last (holds (g.S.LevelMasks.means c.args.set.now)) c.loop-run.at (vec_items c.loop-run.found) c.loop-run.invariant c.in_default.ensures

@@ -6,11 +6,11 @@ use Rattle.bit_block.proofs.Ranks.{rank_at, rank_past}
 use Rattle.bit_block.proofs.mask.Mask.rank.Goals as goal
 
 pub returns-then-t-ge256 : goal.returns-then-t-ge256
-returns-then-t-ge256 c = c.count-ones.ensures ∙ sym (rank_past c.args.self c.args.t (search rules) (omega arith))
+returns-then-t-ge256 c = c.count_ones.ensures ∙ sym (rank_past c.args.self c.args.t (search rules) (omega arith))
 
-pub overflow-add-result : goal.overflow-add-result
-overflow-add-result c =
-    omega (arith, c.ones-before.ensures, count_le (raised c.args.self) (c.args.t / 64 * 64), c.low-ones.ensures, count_le (bit_of (get_or c.args.self.words (c.args.t / 64) 0)) (c.args.t % 64))
+pub overflow_add-result : goal.overflow_add-result
+overflow_add-result c =
+    omega (arith, c.ones_before.ensures, count_le (raised c.args.self) (c.args.t / 64 * 64), c.low_ones.ensures, count_le (bit_of (get_or c.args.self.words (c.args.t / 64) 0)) (c.args.t % 64))
 
 pub returns : goal.returns
-returns c = omega (arith, c.ones-before.ensures, c.low-ones.ensures, rank_at c.args.self c.args.t)
+returns c = omega (arith, c.ones_before.ensures, c.low_ones.ensures, rank_at c.args.self c.args.t)
