@@ -51,8 +51,12 @@ fn configs(rt: HostRuntime) {
 fn words_of_a_line(rt: HostRuntime) -> Result<(), Fail> {
     let found = words(rt.alloc(), command_part(b" has\tbody  7# the end\r\n"))?;
     assert!(rt; found.len() == 3);
-    assert!(rt; found[0] == b"has" && found[1] == b"body" && found[2] == b"7");
-    assert!(rt; command_part(b"count body\r\n") == b"count body");
-    assert!(rt; command_part(b"\r\r") == b"\r");
+    assert!(rt;
+        found[0] == b"has".as_slice()
+            && found[1] == b"body".as_slice()
+            && found[2] == b"7".as_slice()
+    );
+    assert!(rt; command_part(b"count body\r\n") == b"count body".as_slice());
+    assert!(rt; command_part(b"\r\r") == b"\r".as_slice());
     Ok(())
 }

@@ -12,12 +12,20 @@ use help::Help;
 use script::{Failed, fail};
 use std::env;
 use std::fs::File;
-use std::io::BufReader;
+use std::io::{BufReader, Read};
+
+// Runs the script that is read from `input`, which messages call `source`.
+fn run_script<R: Read + Drop>(rt: &HostRuntime, source: &str, input: R) -> Result<(), Failed> {
+    match BufReader::new(rt.alloc(), input) {
+        Ok(lines) => script::run(rt, source, lines),
+        Err(_) => Err(fail(rt, "out of memory")),
+    }
+}
 
 // Runs the script in a file.
 fn run_file(rt: &HostRuntime, path: &str) -> Result<(), Failed> {
     match File::open(rt, path) {
-        Ok(file) => script::run(rt, path, BufReader::new(file)),
+        Ok(file) => run_script(rt, path, file),
         Err(error) => Err(fail(rt, format_args!("{path}: {error}"))),
     }
 }
@@ -53,7 +61,7 @@ fn main(rt: HostRuntime) -> Result<(), Failed> {
         Err(error) => return Err(fail(&rt, format_args!("arguments: {error}"))),
     };
     match (arguments.next(), arguments.next()) {
-        (None, _) => script::run(&rt, "standard input", BufReader::new(rt.stdin())),
+        (None, _) => run_script(&rt, "standard input", rt.stdin()),
         (Some(argument), None) => run_argument(&rt, argument.as_str()),
         (Some(_), Some(extra)) => Err(fail(&rt, format_args!("more than one argument: '{extra}'"))),
     }

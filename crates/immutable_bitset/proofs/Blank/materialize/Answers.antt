@@ -78,7 +78,7 @@ invariant_of-self-2 g c =
     (ap (λ (x : ℕ). x / 64) c.bits.ensures ∙ k1_is (g.S.LevelMasks.means c.args.source.now) c.in-Some.config c.in-Some.ensures c.measure-found.result c.measure-found.ensures)
     (ap (λ (x : ℕ). x / 64) c.bits-2.ensures ∙ kd_is (g.S.LevelMasks.means c.args.source.now) c.in-Some.config c.in-Some.ensures c.measure-found.result c.measure-found.ensures))
     (omega (arith, c.words_needed-all.ensures, c.if-all-self.false, needed_is (g.S.LevelMasks.means c.args.source.now) c.in-Some.config c.in-Some.ensures c.measure-found.result c.measure-found.ensures)) in
-    ((λ _. P.sound.rows), ((λ _. P.sound.wide), ((λ _. P.sound.starts0), ((λ _. P.sound.rows_held), ((λ _. P.sound.starts), ((λ _. P.sound.counts), ((λ _. P.sound.blocks_held), tt)))))))
+    record { rows = λ _. P.sound.rows; wide = λ _. P.sound.wide; starts0 = λ _. P.sound.starts0; rows_held = λ _. P.sound.rows_held; starts = λ _. P.sound.starts; counts = λ _. P.sound.counts; blocks_held = λ _. P.sound.blocks_held }
 
 pub returns : goal.returns
 returns g c = record {

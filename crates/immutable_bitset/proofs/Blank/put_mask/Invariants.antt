@@ -7,5 +7,5 @@ use Rattle.immutable_bitset.proofs.Blank.put_mask.Given as goal
 abbrev pub invariant-loop-q : goal.invariant-loop-q
 invariant-loop-q l =
     (l.self.filled ≡ false)
-    × (l.self.words.name ≡ l.initial.self.words.name)
+    × (l.self.words.ghost_name ≡ l.initial.self.words.ghost_name)
     × Wrote l.initial.self.words.now l.self.words.now l.at (words_of l.q (raised l.m)) (l.at + l.q)
