@@ -1,11 +1,10 @@
 -- Laws of sums and counts over the numbers below n.
-use Rattle.std.proofs.Common.{◌≡◌, ℕ, zero, suc, ◌+◌, ◌-◌, ◌*◌, ◌/◌, ◌%◌, ◌^◌, ◌<◌, ◌≤◌, Bool, true, false, cond, eqb, ◌⊎◌, sym, refl, ap, ◌∙◌, subst, ap₂, inl, inr, ⊎_elim, div-one, add-one, one-add, arith}
+use Rattle.std.proofs.Common.{◌≡◌, ℕ, zero, suc, ◌+◌, ◌-◌, ◌/◌, ◌%◌, ◌^◌, ◌<◌, ◌≤◌, Bool, true, false, cond, eqb, sym, refl, ap, ◌∙◌, subst, ap₂, div-one, add-one, one-add, arith}
 use lib.Count.{ones, ones_step, ones-le}
 use Rattle.std.proofs.lemmas.Nat.{mod_below, shr_below, pow_pos}
-use Rattle.std.proofs.lemmas.Bool.{cases_eq, cases_Bool}
 use Rattle.bit_block.specs.Bit.{bit_of}
 use Rattle.bit_block.specs.Ranges.{total, count}
-use Rattle.bit_block.proofs.Bits.{bit_of-shr, bit_past, bit_mod}
+use Rattle.bit_block.proofs.Bits.{bit_of-shr, bit_mod}
 
 pub total-none : (f : ℕ → ℕ) → total f 0 ≡ 0
 unfolding total

@@ -1,5 +1,5 @@
 -- Widths, capacity, the three indices of a position, and the configuration that two sources share. No configuration is void.
-use Rattle.std.specs.Prelude.{ℕ, ◌*◌, ◌/◌, ◌%◌, Bool, true, false, cond, ◌&&◌, is_some, Some, None, Option, ◌==◌}
+use Rattle.std.specs.Prelude.{ℕ, ◌*◌, ◌/◌, ◌%◌, Bool, cond, ◌&&◌, is_some, Some, None, Option, ◌==◌}
 use Rattle.bit_block.specs.declared.config.Width.{Width}
 use Rattle.bit_block.specs.declared.config.Width.TheVariants.{W64, W128, W256}
 use Rattle.bit_block.specs.declared.config.Config.{Config}

@@ -1,5 +1,5 @@
 -- A source holds no position at or past its capacity, so its bit at p says whether it holds p.
-use Rattle.std.proofs.Common.{◌≡◌, ℕ, ◌+◌, ◌*◌, ◌/◌, ◌%◌, ◌^◌, ◌<◌, ◌≤◌, Bool, true, false, ◌&&◌, ltb, ◌⊎◌, Some, None, Option, sym, refl, ap, ◌∙◌, inl, inr, ⊎_elim, add-mul, mul-pos, arith}
+use Rattle.std.proofs.Common.{◌≡◌, ℕ, ◌+◌, ◌*◌, ◌/◌, ◌^◌, ◌<◌, ◌≤◌, Bool, true, ◌&&◌, ltb, Some, None, Option, sym, ap, ◌∙◌, ⊎_elim, add-mul, mul-pos, arith}
 use Rattle.std.proofs.lemmas.Nat.{div-add-mod', mod_below, mul-le}
 use Rattle.std.proofs.lemmas.Bool.{cases_Bool, and_parts, and_right, lt-ltb, ltb-true}
 use Rattle.bit_block.specs.declared.config.Config.{Config}

@@ -1,7 +1,7 @@
 -- Positions and their three indices: the order of positions is that of places.
-use Rattle.std.proofs.Common.{◌≡◌, ℕ, ◌+◌, ◌*◌, ◌/◌, ◌%◌, ◌<◌, ◌≤◌, Bool, true, false, ◌⊎◌, Some, None, Option, sym, refl, ap, ◌∙◌, subst, inl, inr, ⊎_elim, mul-le-mul_right, mul_assoc, add-mul, mul-pos, arith}
+use Rattle.std.proofs.Common.{◌≡◌, ℕ, ◌+◌, ◌*◌, ◌/◌, ◌%◌, ◌<◌, ◌≤◌, Bool, ◌⊎◌, Some, None, sym, ap, ◌∙◌, inl, inr, ⊎_elim, mul-le-mul_right, mul_assoc, add-mul, mul-pos, arith}
 use native.Mathlib.Nat.{mul-add-mod_self_right}
-use Rattle.std.proofs.lemmas.Nat.{div-add-mod', div-mul-add, mod-mul-add, mul-add-lt, mod_below, mul-le}
+use Rattle.std.proofs.lemmas.Nat.{div-add-mod', div-mul-add, mod-mul-add, mul-add-lt, mod_below}
 use Rattle.std.proofs.lemmas.Bool.{cases_lt, cases_eq}
 use Rattle.bit_block.specs.Bit.{Least}
 use Rattle.bitset_interface.specs.Lex.{Before, UpTo, PlaceLeast}

@@ -1,5 +1,5 @@
 -- Counting by runs.
-use Rattle.std.proofs.Common.{◌≡◌, ℕ, ◌+◌, ◌-◌, ◌<◌, ◌≤◌, Bool, sym, ap, ◌∙◌, arith}
+use Rattle.std.proofs.Common.{◌≡◌, ℕ, ◌+◌, ◌-◌, Bool, ap, arith}
 use Rattle.bit_block.specs.Ranges.{count}
 use Rattle.bit_block.proofs.Counting.{count_add, count-zero, count_all}
 use Rattle.certificate.specs.Runs.{First}

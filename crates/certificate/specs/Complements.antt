@@ -1,5 +1,5 @@
 -- The positions that a source does not hold.
-use Rattle.std.specs.Prelude.{ℕ, not}
+use Rattle.std.specs.Prelude.{not}
 use Rattle.bitset_interface.specs.Source.{Source, Lawful}
 use Rattle.bitset_interface.specs.Spread.{spread, spread_lawful}
 

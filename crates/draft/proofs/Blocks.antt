@@ -1,14 +1,12 @@
 -- Blocks of a draft: where their words stand and which positions their bits are.
-use Rattle.std.proofs.Common.{◌≡◌, ℕ, zero, suc, ◌+◌, ◌-◌, ◌*◌, ◌/◌, ◌%◌, ◌^◌, ◌<◌, ◌≤◌, Bool, true, false, cond, ◌&&◌, ltb, ◌⊎◌, List, length, get_or, Some, None, Option, sym, refl, ap, ◌∙◌, subst, inl, inr, ⊎_elim, mul_assoc, add-mul, arith}
-use Rattle.std.proofs.lemmas.Nat.{mul-le, div-mul-add, mod-mul-add}
-use Rattle.std.proofs.lemmas.Bool.{lt-ltb, le-ltb, and_from}
+use Rattle.std.proofs.Common.{◌≡◌, ℕ, ◌+◌, ◌*◌, ◌/◌, ◌%◌, ◌<◌, Bool, ◌&&◌, ltb, List, get_or, Some, sym, ap, ◌∙◌, mul_assoc, add-mul, arith}
+use Rattle.std.proofs.lemmas.Bool.{lt-ltb, and_from}
 use Rattle.bit_block.specs.Bit.{bit_of}
-use Rattle.bit_block.specs.Raised.{raised}
 use Rattle.bit_block.specs.declared.config.Config.{Config}
-use Rattle.bit_block.specs.Widths.{bits, w0, w1, wd, capacity}
+use Rattle.bit_block.specs.Widths.{bits}
 use Rattle.bit_block.proofs.Places.{sized}
 use Rattle.bitset_interface.specs.Spread.{position}
-use Rattle.draft.specs.Drafts.{stored, draft_words, marked}
+use Rattle.draft.specs.Drafts.{stored, marked}
 
 module _ (c : Config) (i j l d : ℕ) (el : l ≡ bits c.level1) (ed : d ≡ bits c.«data») where
   -- the position of bit t, by the block's first word

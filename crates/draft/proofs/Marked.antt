@@ -1,5 +1,5 @@
 -- What a draft holds, and room in its words.
-use Rattle.std.proofs.Common.{◌≡◌, ℕ, ◌+◌, ◌*◌, ◌/◌, ◌%◌, ◌<◌, ◌≤◌, Bool, true, false, cond, ◌&&◌, ltb, leb, ◌⊎◌, List, Some, None, Option, sym, refl, ap, ◌∙◌, inl, inr, ⊎_elim, mul_assoc, arith}
+use Rattle.std.proofs.Common.{◌≡◌, ℕ, ◌*◌, ◌/◌, ◌≤◌, Bool, cond, ◌&&◌, ltb, leb, List, Some, None, Option, sym, ap, ◌∙◌, ⊎_elim, mul_assoc, arith}
 use Rattle.std.proofs.lemmas.Bool.{cases_lt, cases_Bool, le-ltb, leb-true, and_left}
 use Rattle.bit_block.specs.declared.config.Config.{Config}
 use Rattle.bit_block.specs.Widths.{bits, capacity}

@@ -1,5 +1,5 @@
 -- A draft: one bit a position in lent words. Every bit of levels 0 and 1 is raised, and block after block lies in the words.
-use Rattle.std.specs.Prelude.{◌≡◌, ℕ, ◌+◌, ◌*◌, ◌/◌, ◌%◌, ◌<◌, ◌≤◌, Bool, true, false, cond, ◌&&◌, ◌⊎◌, List, ◌++◌, length, drop, replicate, Some, None, Option, nat_le, nat_lt, slice_index}
+use Rattle.std.specs.Prelude.{◌≡◌, ℕ, ◌+◌, ◌*◌, ◌/◌, ◌%◌, ◌≤◌, Bool, cond, ◌&&◌, ◌⊎◌, List, ◌++◌, length, drop, replicate, Some, None, Option, nat_le, nat_lt, slice_index}
 use Rattle.bit_block.specs.Bit.{bit_of}
 use Rattle.bit_block.specs.declared.config.Config.{Config}
 use Rattle.bit_block.specs.Widths.{capacity}

@@ -1,9 +1,9 @@
 -- When a source is not packed.
-use Rattle.std.proofs.Common.{◌≡◌, ℕ, ◌<◌, ◌≤◌, Bool, cond, leb, is_some, Some, None, Option, sym, refl, ap, ◌∙◌, ap₂, arith}
+use Rattle.std.proofs.Common.{◌≡◌, ℕ, ◌<◌, ◌≤◌, Bool, cond, leb, is_some, Some, None, Option, sym, ap, ◌∙◌, arith}
 use Rattle.std.proofs.lemmas.Bool.{le-leb, lt-leb}
 use Rattle.bit_block.specs.declared.config.Config.{Config}
 use Rattle.bitset_interface.specs.Source.{Source}
-use Rattle.bitset_interface.specs.Refusals.{Refusal, unless}
+use Rattle.bitset_interface.specs.Refusals.{unless}
 use Rattle.packing.specs.Fills.{all_words}
 use Rattle.immutable_bitset.specs.Refusals.{is_void, no_memory, unpacked}
 

@@ -1,5 +1,5 @@
 -- Where the words of a stored block stand, by what the code has computed.
-use Rattle.std.proofs.Common.{◌≡◌, ℕ, ◌+◌, ◌*◌, ◌/◌, ◌%◌, ◌^◌, ◌<◌, ◌≤◌, Bool, true, false, cond, List, length, get_or, take, Some, None, Option, sym, refl, ap, ◌∙◌, ap₂, arith}
+use Rattle.std.proofs.Common.{◌≡◌, ℕ, ◌+◌, ◌*◌, ◌/◌, ◌%◌, ◌^◌, ◌<◌, ◌≤◌, true, false, cond, List, length, get_or, take, Some, None, sym, ap, ◌∙◌, ap₂, arith}
 use Rattle.std.proofs.lemmas.Bool.{cond-true, cond-false}
 use Rattle.bit_block.specs.Bit.{bit_of}
 use Rattle.bit_block.specs.Raised.{raised}
@@ -7,7 +7,7 @@ use Rattle.bit_block.specs.Ranges.{count}
 use Rattle.bit_block.proofs.Places.{sized}
 use Rattle.packing.specs.declared.Numbers.{Numbers}
 use Rattle.packing.specs.Packed.{before, quarter}
-use Rattle.packing.specs.Meaning.{Sound, k1of, kdof, k1-whole, len_of, word_place, held_at, rank, block_place}
+use Rattle.packing.specs.Meaning.{Sound, k1of, kdof, len_of, word_place, held_at, rank, block_place}
 use Rattle.packing.proofs.Lookups.{len_most, len_fits, row_fits, place_lt, held_is, block_fits}
 
 -- what is answered where block (i, j) is not stored

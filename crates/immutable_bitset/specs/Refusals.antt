@@ -1,5 +1,5 @@
 -- The refusals of a filling, by number.
-use Rattle.std.specs.Prelude.{ℕ, Bool, cond, List, [], ◌∷◌, is_some, Some, None, Ok, Err, Option, Result, nat_le}
+use Rattle.std.specs.Prelude.{ℕ, cond, [], ◌∷◌, is_some, Some, None, Ok, Err, Option, Result, nat_le}
 use Rattle.bitset_interface.specs.Source.{Source}
 use Rattle.bitset_interface.specs.Refusals.{Refusal, unless}
 use Rattle.packing.specs.Fills.{all_words}

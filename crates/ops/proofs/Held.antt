@@ -1,10 +1,9 @@
 -- Which positions a layer holds.
-use Rattle.std.proofs.Common.{◌≡◌, ℕ, Bool, true, false, not, ◌&&◌, ◌||◌, ltb, ◌⊎◌, Option, sym, refl, ap, ◌∙◌, ap₂, inl, inr, ⊎_elim}
+use Rattle.std.proofs.Common.{◌≡◌, ℕ, Bool, true, false, ◌&&◌, ltb, Option, sym, refl, ap, ◌∙◌, ap₂, ⊎_elim}
 use Rattle.std.proofs.lemmas.Bool.{cases_Bool, and_right}
-use Rattle.bit_block.specs.Bit.{exclusive}
 use Rattle.bit_block.specs.declared.config.Config.{Config}
 use Rattle.bit_block.specs.Widths.{capacity, shared, live, index0, index1, index_d}
-use Rattle.bitset_interface.specs.Source.{Source, bit_at, holds}
+use Rattle.bitset_interface.specs.Source.{Source, holds}
 use Rattle.ops.specs.Layer.{layer}
 use Rattle.ops.specs.Shares.{shared-left, shared_right}
 

@@ -1,5 +1,5 @@
 -- The sources that layers make of two sources.
-use Rattle.std.specs.Prelude.{ℕ, Bool, true, false, not, ◌&&◌, ◌||◌}
+use Rattle.std.specs.Prelude.{Bool, false, not, ◌&&◌, ◌||◌}
 use Rattle.bit_block.specs.Bit.{exclusive}
 use Rattle.bit_block.specs.Widths.{shared, live}
 use Rattle.bitset_interface.specs.Source.{Source}

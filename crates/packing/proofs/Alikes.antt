@@ -1,15 +1,15 @@
 -- Sources that hold the same positions pack alike.
-use Rattle.std.proofs.Common.{◌≡◌, ℕ, ◌/◌, Bool, cond, ltb, List, [], ◌++◌, Option, sym, refl, ap, ◌∙◌, ap₂}
+use Rattle.std.proofs.Common.{◌≡◌, ℕ, ◌/◌, Bool, cond, ltb, List, [], ◌++◌, Option, ap, ◌∙◌, ap₂}
 use mathlib.Core.Path.{fun_ext}
 use Rattle.bit_block.specs.declared.config.Config.{Config}
 use Rattle.bit_block.specs.Ranges.{count}
 use Rattle.bit_block.specs.Widths.{w1, wd}
-use Rattle.bitset_interface.specs.Source.{Source, Lawful, holds}
+use Rattle.bitset_interface.specs.Source.{Source, Lawful}
 use Rattle.bitset_interface.proofs.Positions.{same_bits}
 use Rattle.packing.specs.Gathered.{gather, words_of}
-use Rattle.packing.specs.Packed.{held, full, row_count, block_count, level1, start_words, packed}
+use Rattle.packing.specs.Packed.{held, full, row_count, block_count, level1, start_words}
 use Rattle.packing.specs.Fills.{k1, kd}
-use Rattle.packing.specs.Packs.{SamePacking, Alike}
+use Rattle.packing.specs.Packs.{Alike}
 
 -- the packing, by which blocks hold something and by the data bits
 words : ℕ → ℕ → (ℕ → ℕ → Bool) → (ℕ → ℕ → ℕ → Bool) → List ℕ

@@ -1,15 +1,12 @@
 -- Three parts written one after another are the packed source.
-use Rattle.std.proofs.Common.{◌≡◌, ℕ, zero, suc, ◌+◌, ◌-◌, ◌*◌, ◌/◌, ◌<◌, ◌≤◌, Bool, List, [], ◌∷◌, ◌++◌, length, take, drop, sym, refl, ap, ◌∙◌, subst, ap₂, arith}
+use Rattle.std.proofs.Common.{◌≡◌, ℕ, ◌+◌, ◌*◌, ◌≤◌, Bool, List, length, take, drop, sym, refl, ap, ◌∙◌, ap₂, arith}
 use Rattle.std.proofs.lemmas.Nat.{mul-le}
 use Rattle.bitset_interface.specs.Source.{Source}
-use Rattle.bit_block.specs.Ranges.{count, total}
-use Rattle.packing.specs.Packed.{held, blocks, full, row_count, block_count, level1, start_words, quarter, data_words, packed, needed, four}
+use Rattle.packing.specs.Packed.{held, full, row_count, block_count, level1, start_words, quarter, data_words, packed, needed, four}
 use Rattle.packing.specs.Fills.{k1, kd, all_words}
 use Rattle.packing.specs.Packs.{WordsOf}
 use Rattle.packing.specs.Wrote.{Wrote}
 use Rattle.bit_block.proofs.Counting.{count_le}
-use Rattle.packing.proofs.Ranges.{total_le}
-use Rattle.packing.proofs.Held.{blocks_le}
 use Rattle.packing.proofs.Lengths.{length-level1, length_data, length_singles}
 use Rattle.packing.proofs.Writes.{wrote_then, wrote_as}
 

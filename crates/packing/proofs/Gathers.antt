@@ -1,12 +1,12 @@
 -- Places in what is gathered.
-use Rattle.std.proofs.Common.{◌≡◌, ℕ, zero, suc, ◌+◌, ◌-◌, ◌*◌, ◌<◌, ◌≤◌, Bool, true, false, cond, ◌⊎◌, List, [], ◌∷◌, ◌++◌, length, get_or, take, sum_by, sym, refl, ap, ◌∙◌, subst, ap₂, inl, inr, ⊎_elim, add-one, arith}
+use Rattle.std.proofs.Common.{◌≡◌, ℕ, zero, suc, ◌+◌, ◌<◌, ◌≤◌, List, ◌++◌, length, get_or, take, sum_by, sym, ap, ◌∙◌, ⊎_elim, arith}
 use lib.Seq.{take-append-add}
 use Rattle.std.proofs.lemmas.List.Sums.{sum_by-append}
-use Rattle.std.proofs.lemmas.List.{append-nil, length-append, take-append-le, get_or_append_left, get_or-append-add}
+use Rattle.std.proofs.lemmas.List.{length-append, take-append-le, get_or_append_left, get_or-append-add}
 use Rattle.std.proofs.lemmas.Bool.{cases_eq}
-use Rattle.bit_block.specs.Ranges.{total, count}
+use Rattle.bit_block.specs.Ranges.{total}
 use Rattle.packing.specs.Gathered.{gather}
-use Rattle.bit_block.proofs.Counting.{total-none, total-suc, count_none, count-suc}
+use Rattle.bit_block.proofs.Counting.{total-none, total-suc}
 use Rattle.packing.proofs.Ranges.{gather_none, gather_more, gather-suc}
 
 module _ (g : ℕ → List ℕ) where

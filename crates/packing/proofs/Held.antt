@@ -1,15 +1,14 @@
 -- Which blocks a source holds.
-use Rattle.std.proofs.Common.{◌≡◌, ℕ, zero, suc, ◌+◌, ◌<◌, ◌≤◌, Bool, true, false, cond, ◌&&◌, ◌||◌, ltb, ◌≢◌, ◌⊎◌, Some, None, Option, sym, refl, ap, ◌∙◌, subst, inl, inr, ⊎_elim, arith}
-use mathlib.Core.Path.{fun_ext}
-use Rattle.std.proofs.lemmas.Bool.{cases_Bool, cases_lt, cases_eq, both_ways, lt-ltb, eq-eqb, ne_eqb}
+use Rattle.std.proofs.Common.{◌≡◌, ℕ, ◌<◌, ◌≤◌, Bool, true, false, ltb, Some, None, Option, ap, ⊎_elim, arith}
+use Rattle.std.proofs.lemmas.Bool.{cases_Bool, both_ways, lt-ltb}
 use Rattle.bit_block.specs.declared.config.Config.{Config}
-use Rattle.bit_block.specs.Widths.{bits, w0, w1, wd}
+use Rattle.bit_block.specs.Widths.{w0, w1, wd}
 use Rattle.bitset_interface.specs.Source.{Source, Lawful}
 use Rattle.bit_block.specs.Ranges.{count}
 use Rattle.bit_block.proofs.Places.{sized}
 use Rattle.bitset_interface.proofs.Rows.{off}
 use Rattle.packing.specs.Packed.{held, blocks, full}
-use Rattle.bit_block.proofs.Counting.{count_more, count_le}
+use Rattle.bit_block.proofs.Counting.{count_le}
 use Rattle.packing.proofs.Ranges.{never_count, count-some}
 
 -- no mask is wider than 256 bits

@@ -1,12 +1,11 @@
 -- Writing what a walk found, part by part.
-use Rattle.std.proofs.Common.{◌≡◌, ℕ, ◌+◌, ◌*◌, ◌<◌, ◌≤◌, Bool, true, false, cond, ltb, ◌⊎◌, List, [], ◌∷◌, ◌++◌, length, Some, None, sym, refl, ap, ◌∙◌, inl, inr, ⊎_elim, arith}
+use Rattle.std.proofs.Common.{◌≡◌, ℕ, ◌+◌, ◌*◌, ◌<◌, ◌≤◌, Bool, true, false, cond, List, [], Some, None, sym, refl, ap, ◌∙◌, ⊎_elim, arith}
 use mathlib.Core.Path.{fun_ext}
 use Rattle.std.proofs.lemmas.Bool.{cond-true, cond-false, ltb-false, cases_lt, both_ways}
 use Rattle.bit_block.specs.Bit.{Least}
 use Rattle.bit_block.specs.Ranges.{total, count}
-use Rattle.bit_block.proofs.Counting.{count_none}
 use Rattle.bitset_interface.specs.Source.{Source, Lawful}
-use Rattle.packing.specs.Gathered.{gather, words_of}
+use Rattle.packing.specs.Gathered.{words_of}
 use Rattle.packing.specs.Packed.{held, blocks, full, level1_to, level1, data_row_to, data_row, data_to, data_words}
 use Rattle.packing.specs.Wrote.{Wrote}
 use Rattle.packing.proofs.Ranges.{gather_none, gather_skip, total_skip, count_skip, count-nothing}

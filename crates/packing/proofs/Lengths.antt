@@ -1,5 +1,5 @@
 -- How long the parts of a packed source are, and that they fit.
-use Rattle.std.proofs.Common.{◌≡◌, ℕ, zero, suc, ◌+◌, ◌-◌, ◌*◌, ◌<◌, ◌≤◌, Bool, true, false, cond, List, [], ◌∷◌, ◌++◌, length, sym, refl, ap, ◌∙◌, subst, mul-le-mul_right, add-mul, arith}
+use Rattle.std.proofs.Common.{◌≡◌, ℕ, zero, suc, ◌+◌, ◌*◌, ◌<◌, ◌≤◌, Bool, true, false, cond, List, [], ◌∷◌, length, ap, ◌∙◌, mul-le-mul_right, add-mul, arith}
 use Rattle.std.proofs.lemmas.List.{length-append}
 use Rattle.bitset_interface.specs.Source.{Source}
 use Rattle.bit_block.specs.Ranges.{total, count}

@@ -1,5 +1,5 @@
 -- Where the words of a block stand.
-use Rattle.std.proofs.Common.{◌≡◌, ℕ, zero, suc, ◌+◌, ◌-◌, ◌*◌, ◌/◌, ◌%◌, ◌^◌, ◌<◌, ◌≤◌, Bool, true, false, cond, ◌&&◌, ltb, List, [], ◌∷◌, ◌++◌, length, get_or, take, sym, refl, ap, ◌∙◌, subst, ap₂, mul-le-mul_right, add-mul, arith}
+use Rattle.std.proofs.Common.{◌≡◌, ℕ, ◌+◌, ◌*◌, ◌/◌, ◌%◌, ◌^◌, ◌<◌, ◌≤◌, Bool, true, false, cond, ltb, List, length, get_or, take, sym, ap, ◌∙◌, mul-le-mul_right, add-mul, arith}
 use lib.Count.{ones}
 use Rattle.std.proofs.lemmas.Nat.{mul-le, mod_below}
 use Rattle.std.proofs.lemmas.List.{length-take-le, get_or-take}
@@ -9,12 +9,12 @@ use Rattle.bit_block.specs.Bit.{bit_of}
 use Rattle.bit_block.specs.Raised.{raised}
 use Rattle.packing.specs.declared.Numbers.{Numbers}
 use Rattle.bit_block.specs.Ranges.{count}
-use Rattle.packing.specs.Packed.{before, start, four, quarter, needed}
-use Rattle.packing.specs.Meaning.{k1of, kdof, k1-whole, kd-whole, Rows, Counts, len_of, word_place, held_at, rank, block_place}
+use Rattle.packing.specs.Packed.{before}
+use Rattle.packing.specs.Meaning.{k1of, kdof, k1-whole, Rows, Counts, len_of, word_place, held_at, rank, block_place}
 use Rattle.bit_block.proofs.Counting.{count_le, count_more, ones_count}
 use Rattle.packing.proofs.Ranges.{count_grows}
 use Rattle.packing.proofs.Lengths.{room}
-use Rattle.packing.proofs.Starts.{before_more, before_grows, start_in, start_small, field_is, fits_take}
+use Rattle.packing.proofs.Starts.{before_more, before_grows}
 
 pub not_row : (m : Numbers) (ws : List ℕ) (i j : ℕ) → raised m.level0 i ≡ false → held_at m ws i j ≡ false
 unfolding held_at

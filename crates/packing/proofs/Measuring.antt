@@ -1,20 +1,18 @@
 -- The walk over a source, row by row.
-use Rattle.std.proofs.Common.{◌≡◌, ℕ, ◌+◌, ◌*◌, ◌<◌, ◌≤◌, Bool, true, false, not, ◌&&◌, ◌||◌, eqb, ltb, ◌⊎◌, List, length, get_or, set, replicate, Some, None, sym, refl, ap, ◌∙◌, inl, inr, ⊎_elim, arith, length-set, get_or-set_other, get_or-set_same}
+use Rattle.std.proofs.Common.{◌≡◌, ℕ, ◌+◌, ◌<◌, ◌≤◌, Bool, false, ◌&&◌, ◌||◌, eqb, ltb, List, length, get_or, set, replicate, Some, None, sym, ap, ◌∙◌, ⊎_elim, arith, length-set, get_or-set_other, get_or-set_same}
 use Rattle.std.proofs.lemmas.List.{length-replicate, get_or-replicate}
 use Rattle.std.proofs.lemmas.Bool.{cases_eq, lt-ltb, le-ltb, and_left}
 use Rattle.bit_block.specs.Bit.{Least}
 use Rattle.bit_block.specs.Raised.{raised}
 use Rattle.bit_block.specs.Ranges.{total, count}
-use Rattle.bit_block.specs.Widths.{w0}
 use Rattle.bit_block.specs.declared.mask.Mask.{Mask}
-use Rattle.bit_block.proofs.Counting.{total-none, count_le, count_same}
+use Rattle.bit_block.proofs.Counting.{total-none, count_same}
 use Rattle.bitset_interface.specs.Source.{Source, Lawful}
-use Rattle.packing.specs.declared.Found.{Found}
-use Rattle.packing.specs.Packed.{held, blocks, full, row_count, block_count}
+use Rattle.packing.specs.Packed.{held, blocks, full}
 use Rattle.packing.specs.Measures.{Measured}
 use Rattle.packing.proofs.Ranges.{total_more, total_skip, total_le}
 use Rattle.packing.proofs.Held.{blocks_le, w0_most}
-use Rattle.packing.proofs.Walks.{UpTo, upto_none, upto_more, upto_all, moved, ended, gap, past, row_off, blocks_off, full_off}
+use Rattle.packing.proofs.Walks.{UpTo, upto_more, upto_all, moved, ended, row_off, blocks_off, full_off}
 
 -- the rows below i are found: which hold something, their blocks, and how many blocks
 pub record Rowed (s : Source) (i : ℕ) (level0 : Mask) (rows : List Mask) (d : ℕ) : Type 0 where

@@ -1,14 +1,13 @@
 -- The numbers of what a walk found are those of the source.
-use Rattle.std.proofs.Common.{◌≡◌, ℕ, ◌/◌, Bool, List, get_or, Some, Option, sym, ap, ◌∙◌, ap₂}
+use Rattle.std.proofs.Common.{◌≡◌, ℕ, ◌/◌, Bool, List, get_or, Some, Option, ap, ◌∙◌, ap₂}
 use mathlib.Core.Path.{fun_ext}
 use Rattle.bit_block.specs.Raised.{raised}
 use Rattle.bit_block.specs.declared.config.Config.{Config}
 use Rattle.bit_block.specs.Widths.{bits, w0, w1, wd}
 use Rattle.bitset_interface.specs.Source.{Source}
 use Rattle.packing.specs.declared.Found.{Found}
-use Rattle.packing.specs.declared.Numbers.{Numbers}
 use Rattle.packing.specs.Starts0.{start0}
-use Rattle.packing.specs.Packed.{held, full, needed}
+use Rattle.packing.specs.Packed.{held, needed}
 use Rattle.packing.specs.Fills.{k1, kd, all_words}
 use Rattle.packing.specs.Measures.{Measured}
 use Rattle.packing.specs.Packs.{NumbersOf}

@@ -1,15 +1,14 @@
 -- The number that bits make: its bits, its ones.
-use Rattle.std.proofs.Common.{◌≡◌, ℕ, zero, suc, ◌+◌, ◌-◌, ◌*◌, ◌/◌, ◌%◌, ◌^◌, ◌<◌, ◌≤◌, Bool, true, false, cond, ◌⊎◌, List, [], ◌∷◌, ◌++◌, length, get_or, take, sum_by, sym, refl, ap, ◌∙◌, subst, ap₂, inl, inr, ⊎_elim, mod-eq_of_lt, pow-suc, add-one, arith, pow_pos}
+use Rattle.std.proofs.Common.{◌≡◌, ℕ, zero, suc, ◌+◌, ◌*◌, ◌^◌, ◌<◌, ◌≤◌, Bool, true, false, cond, List, [], ◌∷◌, length, get_or, take, sum_by, sym, refl, ap, ◌∙◌, ap₂, ⊎_elim, mod-eq_of_lt, pow-suc, add-one, arith}
 use lib.Count.{ones, ones_cat}
 use Rattle.std.proofs.lemmas.List.Sums.{sum_by_push}
 use Rattle.std.proofs.lemmas.List.{append-nil}
 use Rattle.std.proofs.lemmas.Bool.{cases_eq}
 use Rattle.bit_block.specs.Bit.{bit_of}
-use Rattle.bit_block.specs.Ranges.{total, count}
+use Rattle.bit_block.specs.Ranges.{count}
 use Rattle.packing.specs.Gathered.{gather, number, words_of}
 use Rattle.bit_block.proofs.Counting.{count_none, count-suc, count_add}
-use Rattle.packing.proofs.Ranges.{gather_none}
-use Rattle.packing.proofs.Words.{number_same, number-bits, words-none, words_more, length-words}
+use Rattle.packing.proofs.Words.{number-bits, words-none, words_more, length-words}
 use Rattle.packing.proofs.Gathers.{gather_at, gather_take}
 
 pub number-none : (f : ℕ → Bool) → number f 0 ≡ 0

@@ -1,9 +1,9 @@
 -- Laws of what is gathered, and of sums and counts that grow.
-use Rattle.std.proofs.Common.{◌≡◌, ℕ, zero, suc, ◌+◌, ◌-◌, ◌*◌, ◌<◌, ◌≤◌, Bool, true, false, cond, ◌⊎◌, List, [], ◌∷◌, ◌++◌, sym, refl, ap, ◌∙◌, inl, inr, ⊎_elim, add-one, arith}
+use Rattle.std.proofs.Common.{◌≡◌, ℕ, zero, suc, ◌+◌, ◌*◌, ◌<◌, ◌≤◌, Bool, true, false, cond, List, [], ◌++◌, sym, refl, ap, ◌∙◌, ⊎_elim, add-one, arith}
 use Rattle.std.proofs.lemmas.List.{append-nil}
 use Rattle.std.proofs.lemmas.Bool.{cases_eq, cases_Bool}
 use Rattle.bit_block.specs.Ranges.{total, count}
-use Rattle.bit_block.proofs.Counting.{total-none, total-suc, count_none, count-suc, count_more, count-zero}
+use Rattle.bit_block.proofs.Counting.{total-none, total-suc, count-suc, count_more, count-zero}
 use Rattle.packing.specs.Gathered.{gather}
 
 pub gather_none : {X : Type 0} (g : ℕ → List X) → gather g 0 ≡ []

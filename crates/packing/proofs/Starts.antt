@@ -1,8 +1,8 @@
 -- Starts: how many ones stand before a word.
-use Rattle.std.proofs.Common.{◌≡◌, ℕ, zero, suc, ◌+◌, ◌-◌, ◌*◌, ◌/◌, ◌%◌, ◌^◌, ◌<◌, ◌≤◌, Bool, true, false, cond, ltb, ◌⊎◌, List, [], ◌∷◌, ◌++◌, length, get_or, take, sum_by, sym, refl, ap, ◌∙◌, subst, inl, inr, ⊎_elim, add-one, arith}
+use Rattle.std.proofs.Common.{◌≡◌, ℕ, zero, suc, ◌+◌, ◌-◌, ◌*◌, ◌/◌, ◌%◌, ◌^◌, ◌<◌, ◌≤◌, ltb, List, length, get_or, take, sum_by, sym, refl, ap, ◌∙◌, inl, inr, ⊎_elim, add-one, arith}
 use lib.Count.{ones, ones-le}
 use Rattle.std.proofs.lemmas.List.Sums.{sum_by_more}
-use Rattle.std.proofs.lemmas.List.{take_all, length-take-le, get_or-take, get_or_past, take-take}
+use Rattle.std.proofs.lemmas.List.{take_all, length-take-le, get_or-take, get_or_past}
 use Rattle.std.proofs.lemmas.Bool.{lt-ltb, le-ltb, cond-true, cond-false, cases_lt, cases_eq}
 use Rattle.packing.specs.Packed.{before, start, four}
 

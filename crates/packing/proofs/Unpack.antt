@@ -1,22 +1,22 @@
 -- Packed words mean what the source means.
-use Rattle.std.proofs.Common.{◌≡◌, ℕ, zero, suc, ◌+◌, ◌-◌, ◌*◌, ◌/◌, ◌%◌, ◌^◌, ◌<◌, ◌≤◌, Bool, true, false, cond, ◌&&◌, ltb, ◌⊎◌, List, [], ◌∷◌, ◌++◌, length, get_or, take, sum_by, sym, refl, ap, ◌∙◌, subst, ap₂, inl, inr, ⊎_elim, mul-le-mul_right, add-mul, arith}
+use Rattle.std.proofs.Common.{◌≡◌, ℕ, ◌+◌, ◌-◌, ◌*◌, ◌/◌, ◌%◌, ◌<◌, ◌≤◌, Bool, true, false, cond, ◌&&◌, ltb, List, [], ◌∷◌, ◌++◌, length, get_or, take, sum_by, sym, refl, ap, ◌∙◌, ap₂, ⊎_elim, add-mul, arith}
 use lib.Count.{ones}
 use Rattle.std.proofs.lemmas.List.Sums.{sum_by-append}
-use Rattle.std.proofs.lemmas.Nat.{mul-le, mod_below, div-add-mod'}
-use Rattle.std.proofs.lemmas.List.{length-append, take_all, take-take, take_at, take-append-le, length-take-le, get_or-take, get_or_append_left, get_or-append-add}
-use Rattle.std.proofs.lemmas.Bool.{and_from, and_left, and_right, lt-ltb, le-ltb, ltb-true, ltb-false, cases_Bool, cases_lt, both_ways, cond-true}
-use Rattle.bit_block.specs.Widths.{w0, w1, wd}
+use Rattle.std.proofs.lemmas.Nat.{mod_below, div-add-mod'}
+use Rattle.std.proofs.lemmas.List.{length-append, take_all, take-take, take_at, take-append-le, get_or-take, get_or_append_left, get_or-append-add}
+use Rattle.std.proofs.lemmas.Bool.{and_left, and_right, lt-ltb, le-ltb, ltb-false, cases_Bool, cases_lt, both_ways, cond-true}
+use Rattle.bit_block.specs.Widths.{w1, wd}
 use Rattle.bitset_interface.specs.Source.{Source, Lawful}
 use Rattle.bit_block.specs.Bit.{bit_of}
 use Rattle.bit_block.specs.Raised.{raised}
 use Rattle.packing.specs.declared.Numbers.{Numbers}
 use Rattle.bit_block.specs.Ranges.{total, count}
-use Rattle.packing.specs.Gathered.{gather, number, words_of}
-use Rattle.packing.specs.Packed.{held, blocks, full, row_count, block_count, level1, level1_to, before, four, quarter, needed, start_words, data_words, data_to, data_row, data_row_to, packed}
+use Rattle.packing.specs.Gathered.{gather, words_of}
+use Rattle.packing.specs.Packed.{held, blocks, full, row_count, block_count, level1, level1_to, before, four, quarter, needed, start_words, data_words, data_row, packed}
 use Rattle.packing.specs.Meaning.{k1of, kdof, Rows, Counts, Starts, len_of, word_place, held_at, rank, block_place, bit_from, up_at}
-use Rattle.bit_block.proofs.Counting.{count_le, count_more, total-same, count_add, count_same}
+use Rattle.bit_block.proofs.Counting.{total-same, count_add, count_same}
 use Rattle.bitset_interface.proofs.Rows.{off}
-use Rattle.packing.proofs.Ranges.{count_grows, never_count, count-some}
+use Rattle.packing.proofs.Ranges.{never_count, count-some}
 use Rattle.packing.proofs.Words.{length-words}
 use Rattle.packing.proofs.Gathers.{gather_at, gather_take, gather_room, sum_gather}
 use Rattle.packing.proofs.Ones.{word_at, number_bit, ones_words, ones_take_words, get_or-words_of}

@@ -1,5 +1,5 @@
 -- The words of a mask are those of its bits.
-use Rattle.std.proofs.Common.{◌≡◌, ℕ, zero, suc, ◌+◌, ◌-◌, ◌*◌, ◌/◌, ◌%◌, ◌^◌, ◌<◌, ◌≤◌, Bool, true, false, cond, eqb, ◌⊎◌, List, [], ◌∷◌, ◌++◌, length, get_or, sym, refl, ap, ◌∙◌, subst, ap₂, inl, inr, ⊎_elim, mul-le-mul_right, mod-eq_of_lt, add-mul, add-one, one-add, arith}
+use Rattle.std.proofs.Common.{◌≡◌, ℕ, zero, suc, ◌+◌, ◌*◌, ◌/◌, ◌%◌, ◌^◌, ◌<◌, Bool, cond, eqb, List, [], ◌∷◌, ◌++◌, length, get_or, sym, refl, ap, ◌∙◌, ap₂, mod-eq_of_lt, add-mul, add-one, one-add, arith}
 use native.Mathlib.Nat.{mod-one}
 use Rattle.std.proofs.lemmas.Nat.{mod-pow-add, mod_below}
 use Rattle.std.proofs.lemmas.List.{length-append}
@@ -7,10 +7,10 @@ use Rattle.bit_block.specs.Bit.{bit_of}
 use Rattle.bit_block.specs.Raised.{raised}
 use Rattle.bit_block.specs.declared.mask.Mask.{Mask}
 use Rattle.bit_block.proofs.Masks.{raised_at}
-use Rattle.bit_block.specs.Ranges.{total, count}
+use Rattle.bit_block.specs.Ranges.{total}
 use Rattle.packing.specs.Gathered.{gather, number, words_of}
-use Rattle.bit_block.proofs.Counting.{total-none, total-suc, count_more}
-use Rattle.packing.proofs.Ranges.{gather_none, gather_more, gather-suc, count_grows}
+use Rattle.bit_block.proofs.Counting.{total-none, total-suc}
+use Rattle.packing.proofs.Ranges.{gather_none, gather_more, gather-suc}
 
 pub number_same : (f g : ℕ → Bool) (k : ℕ) → ((t : ℕ) → t < k → f t ≡ g t) → number f k ≡ number g k
 unfolding number

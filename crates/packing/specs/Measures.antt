@@ -1,5 +1,5 @@
 -- What a walk over a source finds: h i j says whether block (i, j) holds something.
-use Rattle.std.specs.Prelude.{◌≡◌, ℕ, ◌<◌, Bool, length, slice_index_or}
+use Rattle.std.specs.Prelude.{◌≡◌, ℕ, ◌<◌, Bool, slice_index_or}
 use Rattle.bit_block.specs.Raised.{raised}
 use Rattle.bit_block.specs.declared.mask.Mask.{Mask}
 use Rattle.packing.specs.declared.Found.{Found}

@@ -1,5 +1,5 @@
 -- The packed form of a source. No source raises a bit at or past 256 on any level.
-use Rattle.std.specs.Prelude.{ℕ, zero, suc, ◌+◌, ◌*◌, ◌/◌, ◌^◌, Bool, cond, List, [], ◌∷◌, ◌++◌, length, take, sum_by, count_ones, nat_lt}
+use Rattle.std.specs.Prelude.{ℕ, ◌+◌, ◌*◌, ◌/◌, Bool, cond, List, [], ◌∷◌, ◌++◌, length, take, sum_by, count_ones, nat_lt}
 use Rattle.bitset_interface.specs.Source.{Source}
 use Rattle.bit_block.specs.Ranges.{total, count}
 use Rattle.packing.specs.Gathered.{gather, words_of}

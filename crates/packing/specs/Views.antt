@@ -1,12 +1,12 @@
 -- The source that packed words and their numbers are.
-use Rattle.std.specs.Prelude.{◌≡◌, ℕ, zero, suc, ◌+◌, ◌*◌, ◌<◌, Bool, true, false, cond, ◌&&◌, T, ◌⊎◌, List, Some, None, nat_lt, refl}
-use Rattle.std.proofs.Common.{sym, ◌∙◌, ap, subst, inl, inr, ⊎_elim, arith}
+use Rattle.std.specs.Prelude.{◌≡◌, ℕ, zero, suc, ◌*◌, ◌<◌, Bool, true, false, cond, T, List, Some, None, nat_lt}
+use Rattle.std.proofs.Common.{sym, ap, subst, ⊎_elim, arith}
 use Rattle.std.proofs.lemmas.Bool.{and_parts, ltb-true, cases_Bool, false≢true}
 use Rattle.bit_block.specs.Raised.{raised}
 use Rattle.bit_block.specs.Ranges.{total, count}
 use Rattle.bitset_interface.specs.Source.{Source, Lawful}
 use Rattle.packing.specs.declared.Numbers.{Numbers}
-use Rattle.packing.specs.Meaning.{k1of, kdof, k1-whole, kd-whole, held_at, up_at, bit_from, block_place, Wide, RowsHeld, BlocksHeld}
+use Rattle.packing.specs.Meaning.{k1of, kdof, k1-whole, kd-whole, held_at, up_at, Wide, RowsHeld, BlocksHeld}
 
 find_one : (f : ℕ → Bool) (n : ℕ) → 0 < total (λ t. cond (f t) 1 0) n → (t : ℕ) × (f t ≡ true)
 unfolding total

@@ -1,11 +1,11 @@
 -- Bytes taken from a reader.
-use Rattle.std.proofs.Common.{◌≡◌, ℕ, ◌+◌, ◌-◌, ◌<◌, ◌≤◌, Bool, true, false, cond, ltb, ◌⊎◌, List, length, take, drop, sym, refl, ap, ◌∙◌, ap₂, ⊎_elim, arith, length-drop}
+use Rattle.std.proofs.Common.{◌≡◌, ℕ, ◌+◌, ◌-◌, ◌<◌, ◌≤◌, Bool, cond, ltb, List, length, take, drop, sym, ap, ◌∙◌, ap₂, ⊎_elim, arith, length-drop}
 use mathlib.Core.Path.{fun_ext}
-use Rattle.std.proofs.lemmas.List.{drop-take, drop-drop, take_all}
+use Rattle.std.proofs.lemmas.List.{drop-take, take_all}
 use Rattle.std.proofs.lemmas.Bool.{cases_lt, lt-ltb, le-ltb}
 use Rattle.reader.specs.declared.fault.ReadFault.{ReadFault}
 use Rattle.reader.specs.declared.fault.ReadFault.TheVariants.{Short}
-use Rattle.reader.specs.Streams.{Coming, Stream, past, after}
+use Rattle.reader.specs.Streams.{Coming, past}
 use Rattle.reader.specs.Reads.{limited}
 
 -- what is left of a slice behind its first n bytes

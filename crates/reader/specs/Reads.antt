@@ -1,5 +1,5 @@
 -- A request for as many bytes as a buffer has.
-use Rattle.std.specs.Prelude.{◌≡◌, ℕ, ◌<◌, ◌≤◌, Bool, cond, List, length, take, Ok, Err, Result, nat_lt}
+use Rattle.std.specs.Prelude.{◌≡◌, ℕ, ◌<◌, ◌≤◌, cond, List, length, take, Ok, Err, Result, nat_lt}
 use Rattle.reader.specs.declared.fault.ReadFault.{ReadFault}
 use Rattle.reader.specs.declared.fault.ReadFault.TheVariants.{Short, Device}
 use Rattle.reader.specs.Streams.{Coming, Stream, after, left}

@@ -1,4 +1,4 @@
-use Rattle.std.proofs.Common.{◌≡◌, ℕ, ◌+◌, ◌*◌, ◌/◌, Bool, cond, get_or, ap, ◌∙◌, subst, arith}
+use Rattle.std.proofs.Common.{◌≡◌, ℕ, ◌+◌, ◌/◌, Bool, cond, get_or, ap, ◌∙◌, subst, arith}
 use Rattle.bit_block.specs.Bit.{bit_of}
 use Rattle.draft.proofs.Spans.{Reached, reached_none, reached_more, reached_all}
 use Rattle.draft.proofs.write_span.Goals as goal

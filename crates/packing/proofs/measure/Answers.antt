@@ -1,7 +1,7 @@
 use Rattle.std.proofs.Common.{not, arith}
 use Rattle.bit_block.specs.Raised.{raised}
 use Rattle.bit_block.proofs.Counting.{count_le}
-use Rattle.packing.proofs.Measuring.{rowed_none, rowed_more, rowed_all, found_small, few}
+use Rattle.packing.proofs.Measuring.{rowed_none, rowed_more, rowed_all, few}
 use Rattle.packing.proofs.Walks.{tested_row_lem}
 use Rattle.packing.proofs.measure.Goals as goal
 

@@ -1,11 +1,9 @@
-use Rattle.std.proofs.Common.{◌≡◌, ℕ, ◌+◌, ◌<◌, ◌≤◌, Bool, false, not, sym, ◌∙◌, arith}
+use Rattle.std.proofs.Common.{◌≡◌, ℕ, ◌<◌, Bool, false, not, sym, ◌∙◌, arith}
 use Rattle.bit_block.specs.Raised.{raised}
-use Rattle.bit_block.specs.Widths.{w1}
 use Rattle.bitset_interface.specs.Source.{Source, Lawful}
 use Rattle.packing.specs.Packed.{held}
 use Rattle.packing.proofs.Held.{held_under, w1_most}
-use Rattle.packing.proofs.Walks.{upto_none, upto_more, upto_all, tested}
-use Rattle.packing.proofs.tested_row.Given as given
+use Rattle.packing.proofs.Walks.{upto_more, upto_all, tested}
 use Rattle.packing.proofs.tested_row.Goals as goal
 
 -- a block under a bit that the mask does not raise holds nothing

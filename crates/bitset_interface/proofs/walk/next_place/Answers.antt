@@ -1,4 +1,4 @@
-use Rattle.std.proofs.Common.{◌≡◌, ℕ, ◌+◌, ◌<◌, ◌≤◌, sym, ◌∙◌, arith, rules}
+use Rattle.std.proofs.Common.{ℕ, ◌+◌, arith}
 use Rattle.bit_block.specs.Raised.{raised}
 use Rattle.bitset_interface.proofs.Rows.{again}
 use Rattle.bitset_interface.proofs.walk.next_place.Goals as goal

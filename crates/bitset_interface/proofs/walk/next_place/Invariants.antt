@@ -1,4 +1,4 @@
-use Rattle.std.proofs.Common.{◌≡◌, ℕ, ◌-◌, ◌<◌, ◌≤◌, false}
+use Rattle.std.proofs.Common.{◌≡◌, ℕ, ◌-◌, ◌<◌, false}
 use Rattle.bitset_interface.proofs.walk.next_place.Given as goal
 
 -- nothing is held in the rows after i and before `at`

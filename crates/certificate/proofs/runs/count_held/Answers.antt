@@ -1,7 +1,7 @@
 use Rattle.std.proofs.Common.{sym, ◌∙◌, arith}
 use Rattle.bit_block.specs.Widths.{capacity}
 use Rattle.bit_block.proofs.Counting.{count_none, count_le, count_past}
-use Rattle.bitset_interface.specs.Source.{Source, Lawful, holds}
+use Rattle.bitset_interface.specs.Source.{holds}
 use Rattle.certificate.proofs.Counted.{count_run}
 use Rattle.certificate.proofs.Maximal.{run_within, run_small}
 use Rattle.certificate.proofs.runs.count_held.Goals as goal

@@ -1,14 +1,12 @@
-use Rattle.std.proofs.Common.{◌≡◌, ℕ, ◌≤◌, Bool, true, false, cond, leb, length, Option, sym, refl, ap, ◌∙◌, subst, arith}
+use Rattle.std.proofs.Common.{◌≡◌, Bool, cond, length, sym, refl, ap, ◌∙◌, subst, arith}
 use Rattle.std.proofs.lemmas.Bool.{lt-leb, le-leb}
-use Rattle.bit_block.specs.declared.config.Config.{Config}
 use Rattle.bit_block.specs.Widths.{capacity}
-use Rattle.bitset_interface.specs.Source.{holds}
-use Rattle.draft.specs.Drafts.{fitting, Sets, good_range}
+use Rattle.draft.specs.Drafts.{fitting, good_range}
 use Rattle.bitset_interface.specs.Refusals.{unless}
 use Rattle.draft.specs.Refusals.{bad_range}
 use Rattle.certificate.specs.Runs.{Adds}
 use Rattle.certificate.proofs.Maximal.{run_within, run_small}
-use Rattle.certificate.proofs.Marks.{Part, part_none, part_more, part_all, spanned, run_good, accepted}
+use Rattle.certificate.proofs.Marks.{part_none, part_more, part_all, spanned, run_good, accepted}
 use Rattle.certificate.proofs.runs.mark_all.Goals as goal
 
 pub returns-then-capacity_of : goal.returns-then-capacity_of

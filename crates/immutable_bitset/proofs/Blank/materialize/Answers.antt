@@ -1,11 +1,7 @@
-use Rattle.std.proofs.Common.{◌≡◌, ℕ, ◌+◌, ◌*◌, ◌/◌, ◌<◌, ◌≤◌, length, sym, refl, ap, ◌∙◌, arith}
+use Rattle.std.proofs.Common.{◌≡◌, ℕ, ◌*◌, ◌/◌, length, sym, refl, ap, ◌∙◌, arith}
 use Rattle.bit_block.specs.Widths.{bits}
 use Rattle.bit_block.proofs.Places.{sized}
-use Rattle.bitset_interface.specs.Source.{Source, Lawful}
-use Rattle.packing.specs.declared.Numbers.{Numbers}
-use Rattle.packing.specs.Packed.{held, row_count, block_count, quarter}
-use Rattle.packing.specs.Fills.{k1, kd, all_words}
-use Rattle.packing.specs.Packs.{PackedAs}
+use Rattle.packing.specs.Packed.{held, row_count, quarter}
 use Rattle.packing.proofs.Alikes.{alike}
 use Rattle.packing.proofs.Filled.{packed_as}
 use Rattle.packing.proofs.Filling.{after_one, one_few, after_two, filled}

@@ -1,4 +1,4 @@
-use Rattle.std.proofs.Common.{ℕ, ◌*◌, length, get_or, sym, refl, ap, ◌∙◌, arith}
+use Rattle.std.proofs.Common.{ℕ, ◌*◌, length, sym, refl, ap, ◌∙◌, arith}
 use Rattle.bit_block.specs.Raised.{raised}
 use Rattle.packing.proofs.Ranges.{gather_none}
 use Rattle.packing.proofs.Laying.{row_below, level1_more, level1_room, level1_all}

@@ -1,5 +1,5 @@
-use Rattle.std.proofs.Common.{◌≡◌, ℕ, ◌+◌, ◌*◌, ◌/◌, ◌^◌, ◌<◌, ◌≤◌, List, [], ◌∷◌, ◌++◌, length, get_or, take, sym, refl, ap, ◌∙◌, arith}
-use Rattle.packing.specs.Packed.{before, start, four, start_words_to}
+use Rattle.std.proofs.Common.{◌≡◌, ℕ, ◌+◌, ◌*◌, ◌<◌, List, [], ◌∷◌, ◌++◌, length, take, sym, refl, ap, ◌∙◌, arith}
+use Rattle.packing.specs.Packed.{before, four, start_words_to}
 use Rattle.packing.proofs.Ranges.{gather_none, gather_more}
 use Rattle.packing.proofs.Starts.{before-none}
 use Rattle.packing.proofs.Writes.{wrote_none, wrote_one, wrote_as, wrote_below}

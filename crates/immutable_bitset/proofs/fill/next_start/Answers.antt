@@ -1,7 +1,7 @@
-use Rattle.std.proofs.Common.{◌≡◌, ℕ, ◌+◌, ◌*◌, ◌^◌, ◌<◌, ◌≤◌, List, length, get_or, take, sym, ap, ◌∙◌, arith}
+use Rattle.std.proofs.Common.{◌≡◌, ℕ, ◌*◌, ◌<◌, ◌≤◌, List, length, get_or, take, sym, ap, ◌∙◌, arith}
 use lib.Count.{ones, ones-le}
 use Rattle.std.proofs.lemmas.List.{length-take-le, get_or-take}
-use Rattle.packing.specs.Packed.{before, start}
+use Rattle.packing.specs.Packed.{before}
 use Rattle.packing.proofs.Starts.{before_more, before-past, before_le, start_in, start-past, fits_take}
 use Rattle.immutable_bitset.proofs.fill.next_start.Goals as goal
 

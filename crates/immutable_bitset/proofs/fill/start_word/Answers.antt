@@ -1,5 +1,5 @@
-use Rattle.std.proofs.Common.{◌≡◌, ℕ, ◌+◌, ◌*◌, ◌^◌, ◌<◌, ◌≤◌, List, length, get_or, take, sym, ap, ◌∙◌, arith}
-use Rattle.packing.specs.Packed.{before, start, four}
+use Rattle.std.proofs.Common.{◌≡◌, ℕ, ◌+◌, List, take, ap, ◌∙◌, arith}
+use Rattle.packing.specs.Packed.{before, four}
 use Rattle.immutable_bitset.proofs.fill.start_word.Goals as goal
 
 pub returns : goal.returns

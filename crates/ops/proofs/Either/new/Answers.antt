@@ -1,5 +1,4 @@
-use Rattle.std.proofs.Common.{true, false, not, ◌&&◌, ◌||◌, refl}
-use Rattle.bit_block.specs.Bit.{exclusive}
+use Rattle.std.proofs.Common.{◌&&◌, ◌||◌, refl}
 use Rattle.ops.proofs.Held.{layer_holds}
 use Rattle.ops.proofs.Either.new.Goals as goal
 

@@ -1,4 +1,4 @@
-use Rattle.std.proofs.Common.{true, false, not, ◌&&◌, ◌||◌, refl}
+use Rattle.std.proofs.Common.{false, ◌||◌, refl}
 use Rattle.bit_block.specs.Bit.{exclusive}
 use Rattle.ops.proofs.Held.{layer_holds}
 use Rattle.ops.proofs.OneOf.new.Goals as goal

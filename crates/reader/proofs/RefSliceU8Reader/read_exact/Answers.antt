@@ -1,4 +1,4 @@
-use Rattle.std.proofs.Common.{ℕ, List, [], length, refl, ap, arith, rules}
+use Rattle.std.proofs.Common.{ℕ, List, [], length, ap, arith, rules}
 use Rattle.reader.specs.Reads.{alone, slice}
 use Rattle.reader.proofs.Streaming.{rest_is}
 use Rattle.reader.proofs.RefSliceU8Reader.read_exact.Goals as goal

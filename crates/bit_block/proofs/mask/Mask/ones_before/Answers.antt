@@ -1,4 +1,4 @@
-use Rattle.std.proofs.Common.{◌*◌, get_or, sym, arith, rules}
+use Rattle.std.proofs.Common.{◌*◌, get_or, sym, arith}
 use Rattle.bit_block.specs.Bit.{bit_of}
 use Rattle.bit_block.specs.Raised.{raised}
 use Rattle.bit_block.proofs.Counting.{count_none, count_le}

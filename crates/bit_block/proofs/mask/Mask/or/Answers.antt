@@ -1,7 +1,6 @@
-use Rattle.std.proofs.Common.{◌&&◌, ◌||◌, refl, rules}
-use lib.Bits.{bit_and, bit_or, bit_xor}
-use Rattle.bit_block.specs.Bit.{exclusive}
-use Rattle.bit_block.proofs.Bits.{bit_of-and, bit_of-or, bit_of-xor}
+use Rattle.std.proofs.Common.{◌||◌, refl, rules}
+use lib.Bits.{bit_or}
+use Rattle.bit_block.proofs.Bits.{bit_of-or}
 use Rattle.bit_block.proofs.Masks.{pointwise}
 use Rattle.bit_block.proofs.mask.Mask.or.Goals as goal
 
