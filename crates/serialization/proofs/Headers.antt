@@ -1,11 +1,11 @@
 -- What a header gives.
-use Rattle.std.proofs.Common.{◌≡◌, ℕ, ◌<◌, ◌≤◌, Bool, true, false, cond, eqb, ltb, ◌⊎◌, sym, refl, ap, ◌∙◌, inl, inr, ⊎_elim, arith}
+use Rattle.std.proofs.Common.{◌≡◌, ℕ, ◌<◌, ◌≤◌, cond, eqb, ltb, ◌⊎◌, ◌∙◌, inl, inr, ⊎_elim, arith}
 use Rattle.std.proofs.lemmas.Bool.{lt-ltb, le-ltb, eq-eqb, ne_eqb, cond-true, cond-false, cases_lt}
 use Rattle.reader.specs.Streams.{Stream, left}
 use Rattle.serialization.specs.Faults.{format_mismatch}
 use Rattle.serialization.specs.Image.{version, version_in}
 use Rattle.serialization.specs.Layout.{header_fields}
-use Rattle.serialization.specs.Outcomes.{Outcome, headed, short, refused_after, accepted_after}
+use Rattle.serialization.specs.Outcomes.{headed, short, refused_after, accepted_after}
 
 module _ (s : Stream) where
   v : ℕ

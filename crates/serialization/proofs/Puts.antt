@@ -1,5 +1,5 @@
 -- Bytes put into a buffer.
-use Rattle.std.proofs.Common.{◌≡◌, ℕ, ◌+◌, ◌-◌, ◌≤◌, List, ◌++◌, length, take, drop, sym, refl, ap, ◌∙◌, subst, arith}
+use Rattle.std.proofs.Common.{◌≡◌, ℕ, ◌+◌, ◌-◌, ◌≤◌, List, ◌++◌, length, take, drop, sym, refl, ap, ◌∙◌, arith}
 use borrow.Rule.Slice.PartMut.{put_mid, post_of, mid_of, same_len_mid, drop_put}
 use Rattle.std.proofs.lemmas.List.{append_assoc, take_at, length-take-le, length-append, length-drop}
 use Rattle.packing.specs.Wrote.{Wrote}

@@ -1,12 +1,12 @@
 -- Up to four starts in a word.
-use Rattle.std.proofs.Common.{◌≡◌, ℕ, ◌+◌, ◌*◌, ◌<◌, ◌≤◌, Bool, true, false, cond, ltb, ◌⊎◌, List, [], ◌∷◌, length, get_or, take, drop, Some, None, sym, refl, ap, ◌∙◌, subst, ap₂, inl, inr, ⊎_elim, arith}
+use Rattle.std.proofs.Common.{◌≡◌, ℕ, ◌+◌, ◌*◌, ◌<◌, ◌≤◌, Bool, true, false, cond, ltb, ◌⊎◌, [], ◌∷◌, get_or, take, Some, None, sym, ap, ◌∙◌, subst, inl, inr, ⊎_elim, arith}
 use Rattle.std.proofs.lemmas.Bool.{lt-ltb, le-ltb, cond-true, cond-false, cases_lt}
 use Rattle.std.proofs.lemmas.List.{get_or_past}
 use Rattle.reader.specs.declared.fault.ReadFault.{ReadFault}
-use Rattle.reader.specs.Streams.{Stream, after, left}
-use Rattle.reader.specs.Fields.{Took, one, many, size_of}
+use Rattle.reader.specs.Streams.{Stream, after}
+use Rattle.reader.specs.Fields.{Took, many, size_of}
 use Rattle.reader.specs.LittleEndian.{value, numbers}
-use Rattle.reader.proofs.Fieldings.{run_none, run_more, run_stop, after_none, size_of-one}
+use Rattle.reader.proofs.Fieldings.{run_more, run_stop, after_none, size_of-one}
 use Rattle.reader.proofs.LittleEndians.{get_or-numbers, length-numbers}
 use Rattle.serialization.specs.Fieldwise.{least}
 

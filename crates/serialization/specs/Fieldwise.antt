@@ -1,8 +1,7 @@
 -- What the fields of an image give, read one after another.
-use Rattle.std.specs.Prelude.{◌≡◌, ℕ, ◌+◌, ◌-◌, ◌*◌, ◌≤◌, cond, List, ◌++◌, take, drop, replicate, nat_lt, slice_index}
+use Rattle.std.specs.Prelude.{◌≡◌, ℕ, ◌+◌, ◌-◌, ◌*◌, cond, List, ◌++◌, take, drop, replicate, nat_lt, slice_index}
 use Rattle.bit_block.specs.declared.config.Width.{Width}
 use Rattle.bit_block.specs.declared.config.Config.{Config}
-use Rattle.bit_block.specs.declared.mask.Mask.{Mask}
 use Rattle.packing.specs.declared.Numbers.{Numbers}
 use Rattle.reader.specs.LittleEndian.{numbers}
 use Rattle.serialization.specs.Layout.{size, words, padding, header_size}

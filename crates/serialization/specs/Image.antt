@@ -1,5 +1,5 @@
 -- The image of what is stored, version 3, and what any bytes store when they are read as an image.
-use Rattle.std.specs.Prelude.{ℕ, ◌*◌, List, [], ◌∷◌, ◌++◌, take, drop, replicate}
+use Rattle.std.specs.Prelude.{ℕ, ◌*◌, List, ◌++◌, take, drop, replicate}
 use Rattle.bit_block.specs.declared.config.Config.{Config}
 use Rattle.reader.specs.LittleEndian.{bytes, value, laid, numbers}
 use Rattle.serialization.specs.Layout.{size, words, padding, header_size, level0_at, starts0_at, starts0_end, level1_at, starts1_at, starts1_end, data_at}

@@ -1,5 +1,5 @@
 -- What reading an image gives for any reader, and how many bytes it takes.
-use Rattle.std.specs.Prelude.{ℕ, Bool, cond, List, Some, None, Option, ◌==◌, nat_lt}
+use Rattle.std.specs.Prelude.{ℕ, cond, List, Some, None, Option, ◌==◌, nat_lt}
 use Rattle.bitset_interface.specs.Refusals.{Refusal}
 use Rattle.reader.specs.Fields.{Run, whole, edge}
 use Rattle.reader.specs.Streams.{Stream, left}

@@ -4,4 +4,3 @@
 pub mod error;
 pub mod fields;
 pub mod layout;
-pub mod write;

@@ -2,14 +2,13 @@
 use Rattle.std.proofs.Common.{◌≡◌, ℕ, ◌+◌, ◌-◌, ◌*◌, ◌/◌, ◌%◌, ◌^◌, ◌<◌, ◌≤◌, true, false, ltb, List, length, get_or, take, drop, None, sym, ap, ◌∙◌, subst, ap₂, ⊎_elim, arith}
 use Rattle.std.proofs.lemmas.List.{length-take-le, get_or-drop, get_or_past}
 use Rattle.std.proofs.lemmas.Bool.{le-ltb, cond-false, cases_lt, both_ways}
-use Rattle.bit_block.specs.Bit.{bit_of}
 use Rattle.bit_block.specs.Raised.{raised}
 use Rattle.bit_block.specs.Ranges.{count}
 use Rattle.bit_block.specs.Widths.{bits}
 use Rattle.bit_block.proofs.Masks.{raised-zero}
 use Rattle.bit_block.proofs.Places.{sized}
 use Rattle.packing.specs.declared.Numbers.{Numbers}
-use Rattle.packing.specs.Meaning.{k1of, kdof, len_of, held_at, rank, Rows, Wide, Starts0, RowsHeld, Starts, Counts, BlocksHeld, Sound}
+use Rattle.packing.specs.Meaning.{k1of, kdof, len_of, rank, Rows, Wide, Starts0, RowsHeld, Starts, Counts, BlocksHeld, Sound}
 use Rattle.packing.specs.Packed.{start, four, quarter, needed}
 use Rattle.packing.proofs.Lookups.{rank_lt}
 use Rattle.packing.proofs.Selects.{rank_below, four_fields}

@@ -1,5 +1,5 @@
 -- What loading an image into words gives for any reader, and how many bytes it takes.
-use Rattle.std.specs.Prelude.{ℕ, Bool, cond, List, [], ◌∷◌, is_some, nat_lt}
+use Rattle.std.specs.Prelude.{ℕ, cond, List, [], ◌∷◌, is_some, nat_lt}
 use Rattle.bit_block.specs.declared.config.Config.{Config}
 use Rattle.bitset_interface.specs.Refusals.{Refusal}
 use Rattle.packing.specs.Packed.{needed}

@@ -1,4 +1,4 @@
-use Rattle.std.proofs.Common.{◌≡◌, ℕ, List, [], ◌∷◌, length, take, replicate, sym, refl, ap, ◌∙◌, subst, arith}
+use Rattle.std.proofs.Common.{ℕ, [], ◌∷◌, take, replicate, subst, arith}
 use Rattle.std.proofs.lemmas.List.{length-take-le}
 use Rattle.reader.specs.Streams.{Stream}
 use Rattle.reader.specs.Fields.{Took, one, faulted}

@@ -1,5 +1,4 @@
-use Rattle.std.proofs.Common.{◌≡◌, ℕ, Bool, false, cond, List, [], ◌∷◌, None, sym, refl, ap, ◌∙◌, subst, arith}
-use Rattle.reader.specs.Fields.{Took, many}
+use Rattle.std.proofs.Common.{refl, arith}
 use Rattle.reader.specs.Streams.{Stream}
 use Rattle.reader.proofs.Fieldings.{run_none}
 use Rattle.serialization.proofs.fields.start_or_zero.Goals as goal

@@ -1,6 +1,6 @@
 use Rattle.std.proofs.Common.{ℕ, ◌-◌, ◌%◌, ap, arith}
 use Rattle.std.proofs.lemmas.Nat.{mod_below}
-use Rattle.serialization.specs.Layout.{padding, size}
+use Rattle.serialization.specs.Layout.{padding}
 use Rattle.serialization.proofs.layout.padding_for.Goals as goal
 
 pub returns : goal.returns
