@@ -13,6 +13,7 @@ use script::{Failed, fail};
 use std::env;
 use std::fs::File;
 use std::io::{BufReader, Read};
+use std::process::ExitCode;
 
 // Runs the script that is read from `input`, which messages call `source`.
 fn run_script<R: Read + Drop>(rt: &HostRuntime, source: &str, input: R) -> Result<(), Failed> {
@@ -55,14 +56,22 @@ fn run_argument(rt: &HostRuntime, argument: &str) -> Result<(), Failed> {
 }
 
 // Runs the script that the arguments name, or the one on standard input.
-fn main(rt: HostRuntime) -> Result<(), Failed> {
-    let mut arguments = match env::args(&rt) {
+fn run_arguments(rt: &HostRuntime) -> Result<(), Failed> {
+    let mut arguments = match env::args(rt) {
         Ok(all) => all.skip(1),
-        Err(error) => return Err(fail(&rt, format_args!("arguments: {error}"))),
+        Err(error) => return Err(fail(rt, format_args!("arguments: {error}"))),
     };
     match (arguments.next(), arguments.next()) {
-        (None, _) => run_script(&rt, "standard input", rt.stdin()),
-        (Some(argument), None) => run_argument(&rt, argument.as_str()),
-        (Some(_), Some(extra)) => Err(fail(&rt, format_args!("more than one argument: '{extra}'"))),
+        (None, _) => run_script(rt, "standard input", rt.stdin()),
+        (Some(argument), None) => run_argument(rt, argument.as_str()),
+        (Some(_), Some(extra)) => Err(fail(rt, format_args!("more than one argument: '{extra}'"))),
+    }
+}
+
+// Status 1 where the run failed: standard error has said why, and nothing is added to it.
+fn main(rt: HostRuntime) -> ExitCode {
+    match run_arguments(&rt) {
+        Ok(()) => ExitCode::SUCCESS,
+        Err(Failed) => ExitCode::FAILURE,
     }
 }
