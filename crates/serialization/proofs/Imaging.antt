@@ -50,7 +50,7 @@ length_counts : (n : ℕ) → length (bytes 2 version ++ bytes 2 n) ≡ 4
 length_counts n = longer (bytes 2 version) (bytes 2 n) 2 2 (length-bytes 2 version) (length-bytes 2 n)
 
 -- version, n and d
-length-header : (r : Stored) → length (header r) ≡ header_size
+pub length-header : (r : Stored) → length (header r) ≡ header_size
 length-header r = longer (bytes 2 version ++ bytes 2 r.n) (bytes 4 r.d) 4 4 (length_counts r.n) (length-bytes 4 r.d)
 
 -- numbers that stand in bytes behind a part p

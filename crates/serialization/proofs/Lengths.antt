@@ -1,5 +1,5 @@
 -- How many bytes the fields of an image have.
-use Rattle.std.proofs.Common.{◌≡◌, ℕ, ◌+◌, ◌*◌, ◌++◌, refl, arith}
+use Rattle.std.proofs.Common.{◌≡◌, ℕ, ◌+◌, ◌*◌, ◌++◌, sym, refl, ap, ◌∙◌, mul_assoc, arith}
 use Rattle.bit_block.specs.declared.config.Width.{Width}
 use Rattle.bit_block.specs.declared.config.Width.TheVariants.{W64, W128, W256}
 use Rattle.bit_block.specs.declared.config.Config.{Config}
@@ -32,3 +32,7 @@ size_rest c n d = omega arith
 pub sizes : (c : Config) (n d : ℕ) → size_of (all_fields c n d) ≡ image_length c n d
 sizes c n d =
     omega (arith, size_of-append (header_fields ++ top_fields c) (rest_fields c n d), size_of-append header_fields (top_fields c), size-header, size_top c, size_rest c n d)
+
+-- so many masks have 8 bytes for each of their words
+pub masks-words : (w : Width) (n : ℕ) → n * size w ≡ n * words w * 8
+masks-words w n = ap (λ (k : ℕ). n * k) (size-words w) ∙ sym (mul_assoc n (words w) 8)

@@ -4,3 +4,4 @@ pub mod Headers
 pub mod StartWords
 pub mod Lengths
 pub mod Imaging
+pub mod Laying

@@ -10,10 +10,10 @@ use Rattle.reader.proofs.Fieldings.{run_more, run_stop, after_none, size_of-one}
 use Rattle.reader.proofs.LittleEndians.{get_or-numbers, length-numbers}
 use Rattle.serialization.specs.Fieldwise.{least}
 
-least_below : (c j : ℕ) → j ≤ c → least c j ≡ j
+pub least_below : (c j : ℕ) → j ≤ c → least c j ≡ j
 least_below c j h = cond-false (ltb c j) c j (le-ltb c j h)
 
-least_above : (c j : ℕ) → c ≤ j → least c j ≡ c
+pub least_above : (c j : ℕ) → c ≤ j → least c j ≡ c
 least_above c j h =
     ⊎_elim (λ (l : c < j). cond-true (ltb c j) c j (lt-ltb c j l))
     (λ (g : j ≤ c). cond-false (ltb c j) c j (le-ltb c j g) ∙ (let e : j ≡ c = omega arith in e))

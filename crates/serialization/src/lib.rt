@@ -4,3 +4,4 @@
 pub mod error;
 pub mod fields;
 pub mod layout;
+pub mod write;

@@ -1,4 +1,4 @@
-use Rattle.std.proofs.Common.{◌≡◌, ℕ, ◌+◌, ◌-◌, List, length, sym, ◌∙◌, subst}
+use Rattle.std.proofs.Common.{ℕ, ◌+◌, ◌-◌, List, length, sym, subst}
 use borrow.Rule.Slice.PartMut.{put_mid}
 use Rattle.packing.specs.Wrote.{Wrote}
 use Rattle.serialization.proofs.Puts.{wrote_mid}
