@@ -78,19 +78,19 @@ pub record Kept (c : Config) (r : Stored) : Type 0 where
 pub none-broken : (c : Config) (r : Stored) → broken c r ≡ None → Kept c r
 unfolding broken
 none-broken c r e =
-    let p1 = first_kept 1 _ _ e in
-    let p2 = first_kept 2 _ _ p1.1 in
-    let p3 = first_kept 3 _ _ p2.1 in
-    let p4 = first_kept 4 _ _ p3.1 in
-    let p5 = first_kept 5 _ _ p4.1 in
-    let p6 = first_kept 6 _ _ p5.1 in
+    let rule1 = first_kept 1 _ _ e in
+    let rule2 = first_kept 2 _ _ rule1.1 in
+    let rule3 = first_kept 3 _ _ rule2.1 in
+    let rule4 = first_kept 4 _ _ rule3.1 in
+    let rule5 = first_kept 5 _ _ rule4.1 in
+    let rule6 = first_kept 6 _ _ rule5.1 in
     record {
-      rows = eqb-true _ _ (p1.0 0 (omega arith));
-      starts0 = λ q l. eqb-true _ _ (p2.0 q l);
-      rows_held = λ i l. ltb-true 0 _ (p3.0 i l);
-      starts1 = λ x l. eqb-true _ _ (p4.0 x l);
-      ones = eqb-true _ _ (p5.0 0 (omega arith));
-      blocks_held = λ b l. ltb-true 0 _ (p6.0 b l);
+      rows = eqb-true _ _ (rule1.0 0 (omega arith));
+      starts0 = λ q l. eqb-true _ _ (rule2.0 q l);
+      rows_held = λ i l. ltb-true 0 _ (rule3.0 i l);
+      starts1 = λ x l. eqb-true _ _ (rule4.0 x l);
+      ones = eqb-true _ _ (rule5.0 0 (omega arith));
+      blocks_held = λ b l. ltb-true 0 _ (rule6.0 b l);
     }
 
 -- where all are kept no rule is broken
