@@ -1,7 +1,7 @@
 -- Bits of numbers: what `&`, `|`, `^`, `!`, `>>` and `trailing_zeros` do to `bit_of`.
 use Rattle.std.proofs.Common.{◌≡◌, ℕ, zero, suc, ◌+◌, ◌-◌, ◌*◌, ◌/◌, ◌%◌, ◌^◌, ◌<◌, ◌≤◌, Bool, true, false, not, ◌&&◌, ◌||◌, eqb, sym, refl, ap, ◌∙◌, subst, mul_assoc, pow-suc, div-one, add-one, one-add, arith, pow_pos, pow_mono, shr-shr}
 use native.Mathlib.Nat.{div-eq_of_lt}
-use lib.Bits.{bit_and, bit_or, bit_xor, and_shr, or_shr, xor_shr, and_mod, or_mod, xor_mod, and_mask, xor_add_and, or_add_and, and_le_l, and_le_r}
+use lib.Bits.{bit_and, bit_or, bit_xor, and_shr, or_shr, xor_shr, and_mod, or_mod, xor_mod, and_mask, xor_add_and}
 use lib.Pow.{ones_split, ones_lt, high}
 use lib.Count.{count_trailing_zeros, under}
 use Rattle.std.proofs.lemmas.Nat.{mod_below, shr_below, field_of, div-add-mod'}
@@ -150,7 +150,3 @@ bit_not b k fits h =
 
 pub bit_of-and_not : (a b k : ℕ) → b < 2 ^ 64 → k < 64 → bit_of (bit_and a (2 ^ 64 - 1 - b)) k ≡ (bit_of a k && not (bit_of b k))
 bit_of-and_not a b k fits h = bit_of-and a (2 ^ 64 - 1 - b) k ∙ ap (λ (x : Bool). bit_of a k && x) (bit_not b k fits h)
-
--- a disjunction is 0 where both are
-pub or-zero : (a b : ℕ) → bit_or a b ≡ 0 → (a ≡ 0) × (b ≡ 0)
-or-zero a b e = (omega (arith, or_add_and a b, and_le_r a b), omega (arith, or_add_and a b, and_le_l a b))

@@ -5,3 +5,4 @@ pub mod Leasts
 pub mod Places
 pub mod Words
 pub mod Ranks
+pub mod Later

@@ -1,35 +1,31 @@
 -- Bits of masks: operations word by word, and the least raised bit.
-use Rattle.std.proofs.Common.{◌≡◌, ℕ, zero, suc, ◌+◌, ◌-◌, ◌*◌, ◌/◌, ◌%◌, ◌^◌, ◌<◌, ◌≤◌, Bool, true, false, List, [], ◌∷◌, length, get_or, Some, sym, ap, ◌∙◌, subst, ap₂, ⊎_elim, add-zero, div-one, arith}
-use lib.Bits.{bit_or}
+use Rattle.std.proofs.Common.{◌≡◌, ℕ, zero, suc, ◌+◌, ◌-◌, ◌*◌, ◌/◌, ◌%◌, ◌^◌, ◌<◌, ◌≤◌, Bool, true, false, List, length, get_or, Some, sym, ap, ◌∙◌, subst, ap₂, ⊎_elim, add-zero, div-one, arith}
 use lib.Count.{count_trailing_zeros}
 use Rattle.std.proofs.lemmas.Nat.{mod_below, div-mul-add, mod-mul-add, shr_le}
 use Rattle.std.proofs.lemmas.List.{get_or_past}
-use Rattle.std.proofs.lemmas.Bool.{both_ways, cases_lt, cases_eq}
+use Rattle.std.proofs.lemmas.Bool.{both_ways, cases_lt}
 use Rattle.bit_block.specs.Bit.{bit_of, Least}
 use Rattle.bit_block.specs.Raised.{raised}
 use Rattle.bit_block.specs.declared.mask.Mask.{Mask}
-use Rattle.bit_block.proofs.Bits.{bit_zero, bit_past, bit_of-shr, lowest, Lowest, or-zero}
-
-abbrev pub each : (ℕ → ℕ → ℕ) → List ℕ → List ℕ → List ℕ
-each op x y = op (get_or x 0 0) (get_or y 0 0) ∷ op (get_or x 1 0) (get_or y 1 0) ∷ op (get_or x 2 0) (get_or y 2 0) ∷ op (get_or x 3 0) (get_or y 3 0) ∷ []
+use Rattle.bit_block.proofs.Bits.{bit_zero, bit_past, bit_of-shr, lowest, Lowest}
 
 past : (x : List ℕ) (q k : ℕ) → length x ≡ 4 → 4 ≤ q → bit_of (get_or x q 0) k ≡ false
 past x q k l h = ap (λ (n : ℕ). bit_of n k) (get_or_past x q 0 (omega arith)) ∙ bit_zero k
 
+-- where each word of r is made of the words of x and y, what holds of each word's bits holds of the mask's
 module _ (op : ℕ → ℕ → ℕ) (bop : Bool → Bool → Bool)
     (law : (a b k : ℕ) → b < 2 ^ 64 → k < 64 → bit_of (op a b) k ≡ bop (bit_of a k) (bit_of b k))
     (none : bop false false ≡ false)
-    (x y : List ℕ) (lx : length x ≡ 4) (ly : length y ≡ 4) (fy : (i : ℕ) → get_or y i 0 < 2 ^ 64) where
-  words : (q k : ℕ) → k < 64 → bit_of (get_or (each op x y) q 0) k ≡ bop (bit_of (get_or x q 0) k) (bit_of (get_or y q 0) k)
-  words zero k h = law (get_or x 0 0) (get_or y 0 0) k (fy 0) h
-  words (suc zero) k h = law (get_or x 1 0) (get_or y 1 0) k (fy 1) h
-  words (suc (suc zero)) k h = law (get_or x 2 0) (get_or y 2 0) k (fy 2) h
-  words (suc (suc (suc zero))) k h = law (get_or x 3 0) (get_or y 3 0) k (fy 3) h
-  words (suc (suc (suc (suc n)))) k h =
-      bit_zero k ∙ (sym none ∙ sym (ap₂ bop (past x (suc (suc (suc (suc n)))) k lx (omega arith)) (past y (suc (suc (suc (suc n)))) k ly (omega arith))))
+    (x y r : List ℕ) (lx : length x ≡ 4) (ly : length y ≡ 4) (lr : length r ≡ 4) (fy : (i : ℕ) → get_or y i 0 < 2 ^ 64)
+    (is : (q : ℕ) → q < 4 → get_or r q 0 ≡ op (get_or x q 0) (get_or y q 0)) where
+  words : (q k : ℕ) → k < 64 → bit_of (get_or r q 0) k ≡ bop (bit_of (get_or x q 0) k) (bit_of (get_or y q 0) k)
+  words q k h =
+      ⊎_elim
+      (λ lt. ap (λ (n : ℕ). bit_of n k) (is q lt) ∙ law (get_or x q 0) (get_or y q 0) k (fy q) h)
+      (λ ge. past r q k lr ge ∙ (sym none ∙ sym (ap₂ bop (past x q k lx ge) (past y q k ly ge))))
+      (cases_lt q 4)
 
-  -- what holds of each word's bits holds of the mask's
-  pub pointwise : (t : ℕ) → raised (record { words = each op x y }) t ≡ bop (raised (record { words = x }) t) (raised (record { words = y }) t)
+  pub pointwise : (t : ℕ) → raised (record { words = r }) t ≡ bop (raised (record { words = x }) t) (raised (record { words = y }) t)
   unfolding raised
   pointwise t = words (t / 64) (t % 64) (mod_below t 64 (omega arith))
 
@@ -53,6 +49,10 @@ raised-zero m t e = ap (λ (n : ℕ). bit_of n (t % 64)) e ∙ bit_zero (t % 64)
 
 pub raised-past : (m : Mask) (t : ℕ) → length m.words ≡ 4 → 256 ≤ t → raised m t ≡ false
 raised-past m t l h = raised-zero m t (get_or_past m.words (t / 64) 0 (omega arith))
+
+-- so a raised bit is one of 256
+pub raised_below : (m : Mask) (t : ℕ) → length m.words ≡ 4 → raised m t ≡ true → t < 256
+raised_below m t l e = ⊎_elim (λ lt. lt) (λ ge. absurd (both_ways (raised m t) (raised-past m t l ge) e)) (cases_lt t 256)
 
 -- the rest of word q, from bit s on
 module _ (m : Mask) (q s : ℕ) (small : s < 64) (fits : get_or m.words q 0 < 2 ^ 64) where
@@ -100,30 +100,3 @@ word_some m q fits p =
     let r : Least (raised m) (q * 64 + 0) (Some (q * 64 + 0 + count_trailing_zeros 64 (n / 2 ^ 0))) = rest_some m q 0 (omega arith) fits (omega (arith, div-one n)) in
     let s : Least (raised m) (q * 64 + 0) (Some (q * 64 + 0 + count_trailing_zeros 64 n)) = subst (λ (x : ℕ). Least (raised m) (q * 64 + 0) (Some (q * 64 + 0 + count_trailing_zeros 64 x))) (div-one n) r in
     subst (λ (x : ℕ). Least (raised m) x (Some (x + count_trailing_zeros 64 n))) (add-zero (q * 64)) s
-
--- whether the disjunction of all four words is 0 tells whether a bit is raised
-abbrev pub joined : Mask → ℕ
-joined m = bit_or (bit_or (get_or m.words 0 0) (get_or m.words 1 0)) (bit_or (get_or m.words 2 0) (get_or m.words 3 0))
-
-module _ (m : Mask) (l : length m.words ≡ 4) (fits : (q : ℕ) → get_or m.words q 0 < 2 ^ 64) where
-  pub none_raised : joined m ≡ 0 → (t : ℕ) → raised m t ≡ false
-  none_raised e t =
-      let h = or-zero (bit_or (get_or m.words 0 0) (get_or m.words 1 0)) (bit_or (get_or m.words 2 0) (get_or m.words 3 0)) e in
-      let a = or-zero (get_or m.words 0 0) (get_or m.words 1 0) h.0 in
-      let b = or-zero (get_or m.words 2 0) (get_or m.words 3 0) h.1 in
-      raised-zero m t (zeros m.words l a.0 a.1 b.0 b.1 (t / 64))
-
-  some_word : (q : ℕ) → (get_or m.words q 0 ≡ 0 → ⊥) → (t : ℕ) × (raised m t ≡ true)
-  some_word q ne = (q * 64 + count_trailing_zeros 64 (get_or m.words q 0), (word_some m q (fits q) (omega (arith, ne))).1)
-
-  pub some_raised : (joined m ≡ 0 → ⊥) → (t : ℕ) × (raised m t ≡ true)
-  some_raised ne =
-      ⊎_elim
-      (λ a. ⊎_elim
-      (λ b. ⊎_elim
-      (λ c. ⊎_elim
-      (λ d. absurd (ne (ap₂ bit_or (ap₂ bit_or a b) (ap₂ bit_or c d))))
-      (some_word 3) (cases_eq (get_or m.words 3 0) 0))
-      (some_word 2) (cases_eq (get_or m.words 2 0) 0))
-      (some_word 1) (cases_eq (get_or m.words 1 0) 0))
-      (some_word 0) (cases_eq (get_or m.words 0 0) 0)

@@ -1,11 +1,13 @@
 -- Ranks of a mask: its raised bits counted word by word.
-use Rattle.std.proofs.Common.{◌≡◌, ℕ, ◌+◌, ◌*◌, ◌/◌, ◌%◌, ◌≤◌, length, get_or, sym, ap, ◌∙◌, arith}
+use Rattle.std.proofs.Common.{zero, suc, ◌^◌, ◌<◌, take, sum_by, ◌≡◌, ℕ, ◌+◌, ◌*◌, ◌/◌, ◌%◌, ◌≤◌, length, get_or, sym, ap, ◌∙◌, add-one, arith}
+use lib.Count.{ones}
+use Rattle.std.proofs.lemmas.List.Sums.{sum_by_more}
 use Rattle.std.proofs.lemmas.Nat.{mod_below, div-add-mod'}
 use Rattle.bit_block.specs.Bit.{bit_of}
 use Rattle.bit_block.specs.Raised.{raised}
 use Rattle.bit_block.specs.Ranges.{count}
 use Rattle.bit_block.specs.declared.mask.Mask.{Mask}
-use Rattle.bit_block.proofs.Counting.{count_same, count_add, count_past}
+use Rattle.bit_block.proofs.Counting.{count_none, count_same, count_add, count_past, ones_count}
 use Rattle.bit_block.proofs.Masks.{raised_at, raised-past}
 
 module _ (m : Mask) where
@@ -28,3 +30,11 @@ module _ (m : Mask) where
   -- past the last bit the rank is the whole count
   pub rank_past : (t : ℕ) → length m.words ≡ 4 → 256 ≤ t → count (raised m) t ≡ count (raised m) 256
   rank_past t l h = count_past (raised m) 256 t h (λ u g. raised-past m u l g)
+
+  -- the raised bits of the first words
+  pub ones_taken : length m.words ≡ 4 → ((i : ℕ) → get_or m.words i 0 < 2 ^ 64) → (q : ℕ) → q ≤ 4 → sum_by ones (take q m.words) ≡ count (raised m) (q * 64)
+  ones_taken l fits zero h = sym (count_none (raised m))
+  ones_taken l fits (suc q) h =
+      let a : sum_by ones (take (suc q) m.words) ≡ sum_by ones (take (q + 1) m.words) = ap (λ (n : ℕ). sum_by ones (take n m.words)) (sym (add-one q)) in
+      let b : count (raised m) ((q + 1) * 64) ≡ count (raised m) (suc q * 64) = ap (λ (n : ℕ). count (raised m) (n * 64)) (add-one q) in
+      omega (arith, a, b, sum_by_more ones m.words q 0 (omega (arith, l)), ones_taken l fits q (omega arith), ones_count 64 (get_or m.words q 0) (fits q), rank_more q)

@@ -1,12 +1,17 @@
 -- Masks whose words are given one by one, and one bit written into words.
-use Rattle.std.proofs.Common.{◌≡◌, ℕ, zero, suc, ◌+◌, ◌-◌, ◌*◌, ◌/◌, ◌%◌, ◌^◌, ◌<◌, ◌≤◌, Bool, true, false, cond, ◌&&◌, ◌||◌, eqb, ltb, List, [], ◌∷◌, length, get_or, set, sym, refl, ap, ◌∙◌, ⊎_elim, add-zero, pow-suc, arith, get_or-set_other, get_or-set_same, pow_pos, pow-add}
+use Rattle.std.proofs.Common.{◌≡◌, ℕ, zero, suc, ◌+◌, ◌-◌, ◌*◌, ◌/◌, ◌%◌, ◌^◌, ◌<◌, ◌≤◌, Bool, true, false, cond, ◌&&◌, ◌||◌, eqb, ltb, List, [], ◌∷◌, length, get_or, set, min, drop, sym, refl, ap, ◌∙◌, ⊎_elim, add-zero, pow-suc, arith, get_or-set_other, get_or-set_same, pow_pos, pow-add}
 use native.Mathlib.Nat.{div_self}
 use lib.Bits.{bit_or}
 use lib.Pow.{shl-shr}
 use Rattle.std.proofs.lemmas.Nat.{mod_below, one_shl}
+use Rattle.std.proofs.lemmas.List.{get_or_past, get_or-drop}
+use Rattle.std.proofs.Math.Nat.{min-le_right, le-min}
 use Rattle.std.proofs.lemmas.Bool.{cases_lt, cases_eq, cases_order, lt-ltb, le-ltb, eq-eqb, ne_eqb, cond-true, cond-false}
 use Rattle.bit_block.specs.Bit.{bit_of}
 use Rattle.bit_block.specs.Raised.{raised}
+use Rattle.bit_block.specs.Widths.{bits}
+use Rattle.bit_block.specs.declared.config.Width.{Width}
+use Rattle.bit_block.specs.declared.config.Width.TheVariants.{W64, W128, W256}
 use Rattle.bit_block.proofs.Bits.{bit_zero, bit_ones, bit_past, bit_of-or}
 
 -- a mask whose first n words are f's, and whose others are 0
@@ -108,3 +113,37 @@ raised-one xs t u h =
     ap (λ (x : ℕ). bit_of x (u % 64)) (get_or-set_other xs (t / 64) (u / 64) v 0 n)
     ∙ ap (λ (b : Bool). b || bit_of (get_or xs (u / 64) 0) (u % 64)) (sym (ne_eqb u t (λ k. n (ap (λ (x : ℕ). x / 64) k)))))
     (cases_eq (u / 64) (t / 64))
+
+cond_same : (b : Bool) (x : ℕ) → cond b x x ≡ x
+cond_same true x = refl
+cond_same false x = refl
+
+-- past its end a list gives 0, so cutting it there changes nothing
+cut : (ys : List ℕ) (k q : ℕ) → cond (ltb q (min (length ys) k)) (get_or ys q 0) 0 ≡ cond (ltb q k) (get_or ys q 0) 0
+cut ys k q =
+    let v : ℕ = get_or ys q 0 in
+    ⊎_elim
+    (λ lt. ap (λ (b : Bool). cond b v 0) (lt-ltb q (min (length ys) k) lt ∙ sym (lt-ltb q k (omega (arith, lt, min-le_right (length ys) k)))))
+    (λ ge. cond-false (ltb q (min (length ys) k)) v 0 (le-ltb q (min (length ys) k) ge)
+    ∙ ⊎_elim
+    (λ here. let past : length ys ≤ q = ⊎_elim (λ l. absurd (let m = le-min {k = suc q} {a = length ys} {b = k} l here in omega (arith, m, ge))) (λ g. g) (cases_lt q (length ys)) in
+    sym (ap (λ (x : ℕ). cond (ltb q k) x 0) (get_or_past ys q 0 past) ∙ cond_same (ltb q k) 0))
+    (λ there. sym (cond-false (ltb q k) v 0 (le-ltb q k there)))
+    (cases_lt q k))
+    (cases_lt q (min (length ys) k))
+
+-- a mask whose words are the first k of those that stand from place `at` on; a word past the end is 0
+pub bits_from : (xs : List ℕ) (at k : ℕ) (r : List ℕ) → length r ≡ 4 → k ≤ 4
+    → ((q : ℕ) → q < 4 → get_or r q 0 ≡ cond (ltb q (min (length (drop at xs)) k)) (get_or (drop at xs) q 0) 0)
+    → (t : ℕ) → raised (record { words = r }) t ≡ (ltb t (k * 64) && bit_of (get_or xs (at + t / 64) 0) (t % 64))
+bits_from xs at k r l le is = lanes_bits (from xs at) k r (λ q.
+    ⊎_elim
+    (λ lt. is q lt ∙ (cut (drop at xs) k q ∙ ap (λ (x : ℕ). cond (ltb q k) x 0) (get_or-drop at xs q 0)))
+    (λ ge. get_or_past r q 0 (omega (arith, l)) ∙ sym (cond-false (ltb q k) (get_or xs (at + q) 0) 0 (le-ltb q k (omega arith))))
+    (cases_lt q 4))
+
+-- a width is a whole number of words, four at most
+pub whole : (x : Width) → (bits x ≡ bits x / 64 * 64) × (bits x / 64 ≤ 4)
+whole W64 = (refl, omega arith)
+whole W128 = (refl, omega arith)
+whole W256 = (refl, omega arith)

@@ -2,7 +2,7 @@
 ghost use Rattle.std.specs.Prelude.{◌≡◌, ◌^◌, true, Some};
 ghost use Rattle.bit_block.specs.Widths.{bits, exponent, capacity, shared, index0, index1, index_d};
 
-#[derive(Clone, Copy)]
+#[derive(Clone, Copy, PartialEq, Eq, Debug)]
 pub enum Width {
     W64,
     W128,
@@ -14,11 +14,7 @@ impl Width {
     pub fn bits(self) -> usize
         ensures { result ≡ bits self }
     {
-        match self {
-            Width::W64 => 64,
-            Width::W128 => 128,
-            Width::W256 => 256,
-        }
+        1 << self.exponent()
     }
 
     // The power of two that the width is.
@@ -33,7 +29,7 @@ impl Width {
     }
 }
 
-#[derive(Clone, Copy)]
+#[derive(Clone, Copy, PartialEq, Eq, Debug)]
 pub struct Config {
     pub level0: Width,
     pub level1: Width,
@@ -87,16 +83,7 @@ pub fn common(a: Option<Config>, b: Option<Config>) -> Option<Config>
     ensures { result ≡ shared a b }
 {
     match (a, b) {
-        (Some(c), Some(d)) => {
-            if c.level0.bits() == d.level0.bits()
-                && c.level1.bits() == d.level1.bits()
-                && c.data.bits() == d.data.bits()
-            {
-                Some(c)
-            } else {
-                None
-            }
-        }
+        (Some(c), Some(d)) if c == d => Some(c),
         _ => None,
     }
 }

@@ -1,11 +1,13 @@
 // A mask of up to 256 bits: an array of words that is passed and returned by value.
-ghost use Rattle.std.specs.Prelude.{◌≡◌, ℕ, ◌+◌, ◌*◌, ◌/◌, ◌%◌, ◌^◌, ◌<◌, ◌≤◌, Bool, true, false, not, ◌&&◌, ◌||◌, ◌==◌, nat_lt};
+ghost use Rattle.std.specs.Prelude.{◌≡◌, ℕ, ◌+◌, ◌*◌, ◌/◌, ◌%◌, ◌^◌, ◌<◌, ◌≤◌, Bool, true, false, not, ◌&&◌, ◌||◌, ◌==◌, nat_lt, slice_index, length, sum_by, count_ones, position, drop};
 ghost use Rattle.bit_block.specs.Bit.{bit_of, exclusive, Least};
 ghost use Rattle.bit_block.specs.Ranges.{count};
 ghost use Rattle.bit_block.specs.Raised.{raised};
 ghost use Rattle.bit_block.specs.Widths.{bits};
 
 use crate::config::Width;
+use crate::ones::Ones;
+use std::array;
 
 #[derive(Clone, Copy)]
 pub struct Mask {
@@ -21,6 +23,28 @@ pub fn low_ones(word: u64, k: usize) -> usize
     } else {
         word.count_ones() as usize
     }
+}
+
+// How many bits of some words are raised.
+fn ones_in(words: &[u64]) -> usize
+    requires { length words.now ≤ 4 }
+    ensures { result ≡ sum_by count_ones words.now }
+{
+    words.iter().map(|word| word.count_ones()).sum::<u32>() as usize
+}
+
+// What stands in a slice from a place on: nothing past the slice's end.
+fn onward(words: &[u64], at: usize) -> &[u64]
+    ensures { result.now ≡ drop at words.now }
+{
+    words.get(at..).unwrap_or(&[])
+}
+
+// How far behind a place the first word stands that is not 0.
+fn first_word(words: &[u64], from: usize) -> Option<usize>
+    ensures { result ≡ position (λ word. not (word == 0)) (drop from words.now) }
+{
+    onward(words, from).iter().position(|word| *word != 0)
 }
 
 impl Mask {
@@ -48,15 +72,22 @@ impl Mask {
         }
     }
 
+    // The mask whose words stand in a slice from place `at` on; a word past the slice's end is 0.
+    pub fn from_words(words: &[u64], at: usize, width: Width) -> Mask
+        ensures { (t : ℕ) → raised result t ≡ (nat_lt t (bits width) && bit_of (slice_index words.now (at + t / 64)) (t % 64)) }
+    {
+        let there = onward(words, at);
+        let count = there.len().min(width.bits() / 64);
+        Mask {
+            words: array::from_fn(|q| if q < count { there[q] } else { 0 }),
+        }
+    }
+
     // Whether bit t is raised.
     pub fn get_bit(self, t: usize) -> bool
         ensures { result ≡ raised self t }
     {
-        if t < 256 {
-            (self.words[t / 64] >> (t % 64)) & 1 == 1
-        } else {
-            false
-        }
+        t < 256 && (self.words[t / 64] >> (t % 64)) & 1 == 1
     }
 
     // The mask with bit t raised as well; the same mask where t is 256 or more.
@@ -71,44 +102,38 @@ impl Mask {
         Mask { words }
     }
 
+    // The mask whose words are those of two masks, joined word by word.
+    fn zip<F: Fn(u64, u64) -> u64>(self, other: Mask, join: F) -> Mask
+        requires { F.IsAlwaysCallable join }
+        ensures { (q : ℕ) → q < 4 → F.post join (slice_index self.words q) (slice_index other.words q) (slice_index result.words q) }
+    {
+        Mask {
+            words: array::from_fn(|q| join(self.words[q], other.words[q])),
+        }
+    }
+
     pub fn and(self, other: Mask) -> Mask
         ensures { (t : ℕ) → raised result t ≡ (raised self t && raised other t) }
     {
-        let a = self.words;
-        let b = other.words;
-        Mask {
-            words: [a[0] & b[0], a[1] & b[1], a[2] & b[2], a[3] & b[3]],
-        }
+        self.zip(other, |a, b| a & b)
     }
 
     pub fn or(self, other: Mask) -> Mask
         ensures { (t : ℕ) → raised result t ≡ (raised self t || raised other t) }
     {
-        let a = self.words;
-        let b = other.words;
-        Mask {
-            words: [a[0] | b[0], a[1] | b[1], a[2] | b[2], a[3] | b[3]],
-        }
+        self.zip(other, |a, b| a | b)
     }
 
     pub fn xor(self, other: Mask) -> Mask
         ensures { (t : ℕ) → raised result t ≡ exclusive (raised self t) (raised other t) }
     {
-        let a = self.words;
-        let b = other.words;
-        Mask {
-            words: [a[0] ^ b[0], a[1] ^ b[1], a[2] ^ b[2], a[3] ^ b[3]],
-        }
+        self.zip(other, |a, b| a ^ b)
     }
 
     pub fn without(self, other: Mask) -> Mask
         ensures { (t : ℕ) → raised result t ≡ (raised self t && not (raised other t)) }
     {
-        let a = self.words;
-        let b = other.words;
-        Mask {
-            words: [a[0] & !b[0], a[1] & !b[1], a[2] & !b[2], a[3] & !b[3]],
-        }
+        self.zip(other, |a, b| a & !b)
     }
 
     // Whether no bit is raised.
@@ -116,27 +141,14 @@ impl Mask {
         ensures none { result ≡ true → (t : ℕ) → raised self t ≡ false }
         ensures some { result ≡ false → (t : ℕ) × (raised self t ≡ true) }
     {
-        let w = self.words;
-        (w[0] | w[1]) | (w[2] | w[3]) == 0
-    }
-
-    // How many bits of the first n words are raised.
-    fn ones_before(self, n: usize) -> usize
-        requires { n ≤ 4 }
-        ensures { result ≡ count (raised self) (n * 64) }
-    {
-        let mut sum = 0;
-        for q in 0..n {
-            sum += low_ones(self.words[q], 64);
-        }
-        sum
+        self.first_from(0).is_none()
     }
 
     // How many bits are raised.
     pub fn count_ones(self) -> usize
         ensures { result ≡ count (raised self) 256 }
     {
-        self.ones_before(4)
+        ones_in(&self.words)
     }
 
     // How many bits strictly below t are raised; all of them where t is 256 or more.
@@ -146,29 +158,36 @@ impl Mask {
         if t >= 256 {
             return self.count_ones();
         }
-        self.ones_before(t / 64) + low_ones(self.words[t / 64], t % 64)
+        ones_in(&self.words[..t / 64]) + low_ones(self.words[t / 64], t % 64)
     }
 
     // The least raised bit at or above k.
     pub fn first_from(self, k: usize) -> Option<usize>
         ensures { Least (raised self) k result }
     {
-        let mut w = k / 64;
-        if w >= 4 {
-            return None;
-        }
-        let rest = self.words[w] >> (k % 64);
+        let at = k / 64;
+        let rest = self.words.get(at)? >> (k % 64);
         if rest != 0 {
             return Some(k + rest.trailing_zeros() as usize);
         }
-        w += 1;
-        while w < 4 {
-            let word = self.words[w];
-            if word != 0 {
-                return Some(w * 64 + word.trailing_zeros() as usize);
-            }
-            w += 1;
-        }
-        None
+        let next = at + 1;
+        let w = next + first_word(&self.words, next)?;
+        Some(w * 64 + self.words[w].trailing_zeros() as usize)
+    }
+
+    // The raised bits at or above k, in order.
+    pub fn ones_from(self, k: usize) -> Ones
+        ensures mask { result.mask ≡ self }
+        ensures at { result.at ≡ k }
+    {
+        Ones { mask: self, at: k }
+    }
+
+    // The raised bits, in order.
+    pub fn ones(self) -> Ones
+        ensures mask { result.mask ≡ self }
+        ensures at { result.at ≡ 0 }
+    {
+        self.ones_from(0)
     }
 }

@@ -16,8 +16,6 @@ use bit_block::mask::Mask;
 pub trait LevelMasks {
     ghost means: { Self → Source };
 
-    ghost lawful: { (s : Self) → Lawful (means s) };
-
     // The configuration; None where the source is void.
     fn config(&self) -> Option<Config>
         ensures { result ≡ (means self.now).conf };
@@ -36,6 +34,9 @@ pub trait LevelMasks {
     // The data block at (i, j); zero where bit j of level-1 mask i is not raised or an index is past its width.
     fn data_mask(&self, i: usize, j: usize) -> Mask
         ensures { (t : ℕ) → raised result t ≡ (means self.now).up2 i j t };
+
+    // What it means keeps the laws of a source.
+    ghost lawful: { (s : Self) → Lawful (means s) };
 }
 
 // What is lent is a source of the same meaning.

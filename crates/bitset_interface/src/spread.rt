@@ -10,10 +10,7 @@ use bit_block::mask::Mask;
 pub fn every_level0(config: Option<Config>) -> Mask
     ensures { (t : ℕ) → raised result t ≡ every0 config t }
 {
-    match config {
-        None => Mask::zero(),
-        Some(c) => Mask::full(c.level0),
-    }
+    config.map_or(Mask::zero(), |c| Mask::full(c.level0))
 }
 
 // The level-1 mask at i with every bit raised; zero where i is past the width of level 0 or the configuration is void.

@@ -12,10 +12,7 @@ use bit_block::config::Config;
 pub fn capacity_of<S: LevelMasks>(s: &S) -> usize
     ensures { result ≡ capacity (S.LevelMasks.means s.now).conf }
 {
-    match s.config() {
-        None => 0,
-        Some(c) => c.capacity(),
-    }
+    s.config().map_or(0, |config| config.capacity())
 }
 
 // Whether the source holds position p.
@@ -33,13 +30,10 @@ pub fn contains<S: LevelMasks>(s: &S, p: usize) -> bool
 fn in_row<S: LevelMasks>(s: &S, i: usize, from: usize) -> Option<(usize, usize)>
     ensures { RowLeast ((S.LevelMasks.means s.now).up2 i) from result }
 {
-    let mask = s.level1_mask(i);
-    let mut j = from;
-    while let Some(found) = mask.first_from(j) {
+    for found in s.level1_mask(i).ones_from(from) {
         if let Some(k) = s.data_mask(i, found).first_from(0) {
             return Some((found, k));
         }
-        j = found + 1;
     }
     None
 }
@@ -55,13 +49,10 @@ fn next_place<S: LevelMasks>(s: &S, i: usize, j: usize, k: usize) -> Option<(usi
     if let Some((b, c)) = in_row(s, i, j + 1) {
         return Some((i, b, c));
     }
-    let mask = s.level0_mask();
-    let mut at = i + 1;
-    while let Some(found) = mask.first_from(at) {
+    for found in s.level0_mask().ones_from(i + 1) {
         if let Some((b, c)) = in_row(s, found, 0) {
             return Some((found, b, c));
         }
-        at = found + 1;
     }
     None
 }
@@ -70,9 +61,7 @@ fn next_place<S: LevelMasks>(s: &S, i: usize, j: usize, k: usize) -> Option<(usi
 pub fn next_from<S: LevelMasks>(s: &S, p: usize) -> Option<usize>
     ensures { Least (holds (S.LevelMasks.means s.now)) p result }
 {
-    let Some(config) = s.config() else {
-        return None;
-    };
+    let config = s.config()?;
     let (i, j, k) = config.level_indices(p);
     if i >= config.level0.bits() {
         return None;
