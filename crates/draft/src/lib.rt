@@ -15,6 +15,7 @@ use bit_block::mask::Mask;
 use bitset_interface::LevelMasks;
 use bitset_interface::spread::{every_level0, every_level1};
 use bitset_interface::walk::capacity_of;
+use std::convert::AsSlice;
 
 // Why a draft declines a call.
 #[derive(Clone, Copy, PartialEq, Eq, Debug)]
@@ -32,54 +33,26 @@ pub fn words_needed(config: Config) -> usize
     config.capacity() / 64
 }
 
-// A draft that is only read. Over fewer words than it takes it is void.
-#[derive(Clone, Copy)]
-pub struct DraftView<'a> {
+// A draft over lent words, one bit a position. Over fewer words than it takes it is void.
+#[derive(Clone, Copy, Drop)]
+pub struct DraftOver<W> {
     config: Config,
-    words: &'a [u64],
+    words: W,
 }
 
-impl<'a> DraftView<'a> {
-    // The draft that the words are: it holds the positions below its capacity whose bits are set in them.
-    pub fn new(words: &'a [u64], config: Config) -> DraftView<'a>
-        ensures words { result.words.now ≡ words.now }
-        ensures config { result.config ≡ config }
-        ensures held { (p : ℕ) → holds (draft result.config result.words.now) p ≡ (nat_lt p (capacity (fitting config (length words.now))) && stored words.now p) }
-    {
-        DraftView { config, words }
-    }
-}
+// A draft that is only read.
+pub type DraftView<'a> = DraftOver<&'a [u64]>;
 
-// The mask of one block, whose words stand from `base` on.
-fn block(words: &[u64], base: usize, width: Width) -> Mask
-    requires { base + bits width / 64 ≤ length words.now }
-    ensures { (t : ℕ) → raised result t ≡ (nat_lt t (bits width) && bit_of (slice_index words.now (base + t / 64)) (t % 64)) }
-{
-    match width {
-        Width::W64 => Mask {
-            words: [words[base], 0, 0, 0],
-        },
-        Width::W128 => Mask {
-            words: [words[base], words[base + 1], 0, 0],
-        },
-        Width::W256 => Mask {
-            words: [
-                words[base],
-                words[base + 1],
-                words[base + 2],
-                words[base + 3],
-            ],
-        },
-    }
-}
+// A draft that is marked and cleared.
+pub type Draft<'a> = DraftOver<&'a mut [u64]>;
 
-impl<'a> LevelMasks for DraftView<'a> {
-    ghost means = { λ s. draft s.config s.words.now };
+impl<W: AsSlice<u64>> LevelMasks for DraftOver<W> {
+    ghost means = { λ s. draft s.config (W.AsSlice.items s.words) };
 
-    ghost lawful = { λ s. draft_lawful s.config s.words.now };
+    ghost lawful = { λ s. draft_lawful s.config (W.AsSlice.items s.words) };
 
     fn config(&self) -> Option<Config> {
-        if words_needed(self.config) <= self.words.len() {
+        if words_needed(self.config) <= self.words.as_slice().len() {
             Some(self.config)
         } else {
             None
@@ -103,22 +76,23 @@ impl<'a> LevelMasks for DraftView<'a> {
             return Mask::zero();
         };
         if i < c.level0.bits() && j < c.level1.bits() {
-            block(
-                self.words,
-                (i * c.level1.bits() + j) * (c.data.bits() / 64),
-                c.data,
-            )
+            let at = (i * c.level1.bits() + j) * (c.data.bits() / 64);
+            Mask::from_words(self.words.as_slice(), at, c.data)
         } else {
             Mask::zero()
         }
     }
 }
 
-// A draft. Over fewer words than it takes it is void.
-#[derive(Drop)]
-pub struct Draft<'a> {
-    config: Config,
-    words: &'a mut [u64],
+impl<'a> DraftView<'a> {
+    // The draft that the words are: it holds the positions below its capacity whose bits are set in them.
+    pub fn new(words: &'a [u64], config: Config) -> DraftView<'a>
+        ensures words { result.words.now ≡ words.now }
+        ensures config { result.config ≡ config }
+        ensures held { (p : ℕ) → holds (draft result.config result.words.now) p ≡ (nat_lt p (capacity (fitting config (length words.now))) && stored words.now p) }
+    {
+        DraftOver { config, words }
+    }
 }
 
 // The word whose bits below n are raised.
@@ -188,7 +162,7 @@ impl<'a> Draft<'a> {
         ensures config { result.config ≡ config }
         ensures lender { result.words.ghost_name ≡ words.entry.ghost_name }
     {
-        Draft { config, words }
+        DraftOver { config, words }
     }
 
     // The draft to be read.
@@ -196,7 +170,7 @@ impl<'a> Draft<'a> {
         ensures words { result.words.now ≡ self.now.words.now }
         ensures config { result.config ≡ self.now.config }
     {
-        DraftView {
+        DraftOver {
             config: self.config,
             words: self.words,
         }
@@ -235,31 +209,5 @@ impl<'a> Draft<'a> {
         ensures lender { self.new.words.ghost_name ≡ self.old.words.ghost_name }
     {
         self.put(from, to, false)
-    }
-}
-
-impl<'a> LevelMasks for Draft<'a> {
-    ghost means = { λ s. draft s.config s.words.now };
-
-    ghost lawful = { λ s. draft_lawful s.config s.words.now };
-
-    fn config(&self) -> Option<Config> {
-        self.view().config()
-    }
-
-    fn trusted(&self) -> bool {
-        false
-    }
-
-    fn level0_mask(&self) -> Mask {
-        self.view().level0_mask()
-    }
-
-    fn level1_mask(&self, i: usize) -> Mask {
-        self.view().level1_mask(i)
-    }
-
-    fn data_mask(&self, i: usize, j: usize) -> Mask {
-        self.view().data_mask(i, j)
     }
 }
