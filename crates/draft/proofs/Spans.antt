@@ -1,6 +1,9 @@
 -- Words of a range of positions, bit by bit.
-use Rattle.std.proofs.Common.{◌≡◌, ℕ, ◌+◌, ◌-◌, ◌*◌, ◌/◌, ◌%◌, ◌^◌, ◌<◌, ◌≤◌, Bool, true, false, cond, not, ◌&&◌, ◌||◌, ltb, leb, ◌⊎◌, List, length, get_or, set, sym, refl, ap, ◌∙◌, ap₂, inl, inr, ⊎_elim, arith, length-set, get_or-set_other, get_or-set_same, pow_pos}
+use Rattle.std.proofs.Common.{◌≡◌, ℕ, ◌+◌, ◌-◌, ◌*◌, ◌/◌, ◌%◌, ◌^◌, ◌<◌, ◌≤◌, Bool, true, false, cond, not, ◌&&◌, ◌||◌, ltb, leb, ◌⊎◌, List, length, get_or, set, take, drop, sym, refl, ap, ◌∙◌, ap₂, inl, inr, ⊎_elim, arith, length-set, get_or-set_other, get_or-set_same, pow_pos}
 use lib.Bits.{bit_and, bit_or}
+use borrow.Rule.Slice.PartMut.{mid_of, put_mid}
+use Rattle.std.proofs.lemmas.List.{get_or-take, get_or-drop, get_or-append_right, length-take-le, length-drop}
+use Rattle.std.proofs.lemmas.Slice.{take-put_mid_below, take-put_mid, drop-put_mid}
 use Rattle.std.proofs.lemmas.Nat.{mod_below, div-add-mod'}
 use Rattle.std.proofs.lemmas.Bool.{cases_lt, cases_eq, lt-ltb, le-ltb, le-leb, lt-leb, and_left, and_right, cond-false}
 use Rattle.bit_block.specs.Bit.{bit_of}
@@ -60,53 +63,102 @@ joined-bits word part k on e = bit_of-or word part k ∙ or-cond (bit_of word k)
 pub cut_bits : (word part k : ℕ) (on : Bool) → part < 2 ^ 64 → k < 64 → on ≡ false → bit_of (bit_and word (2 ^ 64 - 1 - part)) k ≡ cond (bit_of part k) on (bit_of word k)
 cut_bits word part k on f h e = bit_of-and_not word part k f h ∙ drop-cond (bit_of word k) (bit_of part k) ∙ ap (λ (b : Bool). cond (bit_of part k) b (bit_of word k)) (sym e)
 
--- how far from..to is written: the words before w are done, the others are as they were
-pub record Reached (on : Bool) (from to w : ℕ) (old new : List ℕ) : Type 0 where
+-- how far a part is written whose first word is word `first` of the draft: its words before n are done, the others are as they were
+pub record Reached (on : Bool) (from to first n : ℕ) (old new : List ℕ) : Type 0 where
   pub long : length new ≡ length old
-  pub left : (q : ℕ) → (q < from / 64) ⊎ (w ≤ q) → get_or new q 0 ≡ get_or old q 0
-  pub done : (q k : ℕ) → from / 64 ≤ q → q < w → k < 64 → bit_of (get_or new q 0) k ≡ cond (within from to (q * 64 + k)) on (bit_of (get_or old q 0) k)
+  pub left : (q : ℕ) → n ≤ q → get_or new q 0 ≡ get_or old q 0
+  pub done : (q k : ℕ) → q < n → k < 64 → bit_of (get_or new q 0) k ≡ cond (within from to ((first + q) * 64 + k)) on (bit_of (get_or old q 0) k)
 
-module _ (on : Bool) (from to : ℕ) (old : List ℕ) where
-  pub reached_none : Reached on from to (from / 64) old old
-  reached_none = record { long = refl; left = λ q _. refl; done = λ q k a b _. absurd (omega arith) }
+module _ (on : Bool) (from to first : ℕ) (old : List ℕ) where
+  pub reached_none : Reached on from to first 0 old old
+  reached_none = record { long = refl; left = λ q _. refl; done = λ q k lt _. absurd (omega arith) }
 
   -- one word more
-  pub reached_more : (w v : ℕ) (new : List ℕ) → from / 64 ≤ w → w < length new → Reached on from to w old new
-      → ((k : ℕ) → k < 64 → bit_of v k ≡ cond (within from to (w * 64 + k)) on (bit_of (get_or new w 0) k))
-      → Reached on from to (w + 1) old (set new w v)
-  reached_more w v new low lt r h = record {
-    long = length-set new w v ∙ r.long;
-    left = λ q o. get_or-set_other new w q v 0 (λ e. ⊎_elim (λ a. omega arith) (λ a. omega arith) o)
-        ∙ r.left q (⊎_elim inl (λ a. inr (omega arith)) o);
-    done = λ q k a b l. ⊎_elim
+  pub reached_more : (n v : ℕ) (new : List ℕ) → n < length new → Reached on from to first n old new
+      → ((k : ℕ) → k < 64 → bit_of v k ≡ cond (within from to ((first + n) * 64 + k)) on (bit_of (get_or new n 0) k))
+      → Reached on from to first (n + 1) old (set new n v)
+  reached_more n v new lt r h = record {
+    long = length-set new n v ∙ r.long;
+    left = λ q o. get_or-set_other new n q v 0 (λ e. omega arith) ∙ r.left q (omega arith);
+    done = λ q k b l. ⊎_elim
         (λ e.
-        ap (λ (x : ℕ). bit_of (get_or (set new w v) x 0) k) e
-        ∙ ap (λ (x : ℕ). bit_of x k) (get_or-set_same new w v 0 lt)
+        ap (λ (x : ℕ). bit_of (get_or (set new n v) x 0) k) e
+        ∙ ap (λ (x : ℕ). bit_of x k) (get_or-set_same new n v 0 lt)
         ∙ h k l
-        ∙ ap (λ (x : ℕ). cond (within from to (w * 64 + k)) on (bit_of x k)) (r.left w (inr (omega arith)))
-        ∙ ap (λ (x : ℕ). cond (within from to (x * 64 + k)) on (bit_of (get_or old x 0) k)) (sym e))
-        (λ ne. ap (λ (x : ℕ). bit_of x k) (get_or-set_other new w q v 0 ne) ∙ r.done q k a (omega (arith, ne)) l)
-        (cases_eq q w);
+        ∙ ap (λ (x : ℕ). cond (within from to ((first + n) * 64 + k)) on (bit_of x k)) (r.left n (omega arith))
+        ∙ ap (λ (x : ℕ). cond (within from to ((first + x) * 64 + k)) on (bit_of (get_or old x 0) k)) (sym e))
+        (λ ne. ap (λ (x : ℕ). bit_of x k) (get_or-set_other new n q v 0 ne) ∙ r.done q k (omega (arith, ne)) l)
+        (cases_eq q n);
   }
+
+-- a list with k elements from place a on written anew
+module _ (a k : ℕ) (xs ys : List ℕ) (room : a ≤ length xs) (long : length ys ≡ k) where
+  mid_before : (q : ℕ) → q < a → get_or (put_mid a k xs ys) q 0 ≡ get_or xs q 0
+  mid_before q h =
+      sym (get_or-take a (put_mid a k xs ys) q 0 h)
+      ∙ ap (λ (l : List ℕ). get_or l q 0) (take-put_mid_below a k xs ys a (omega arith) room)
+      ∙ get_or-take a xs q 0 h
+
+  mid_in : (q : ℕ) → a ≤ q → q < a + k → get_or (put_mid a k xs ys) q 0 ≡ get_or ys (q - a) 0
+  mid_in q h lt =
+      sym (get_or-take (a + length ys) (put_mid a k xs ys) q 0 (omega (arith, long)))
+      ∙ ap (λ (l : List ℕ). get_or l q 0) (take-put_mid a k xs ys (a + length ys) refl room)
+      ∙ get_or-append_right (take a xs) ys a q 0 (length-take-le a xs room) h
+
+  mid_after : (q : ℕ) → a + k ≤ q → get_or (put_mid a k xs ys) q 0 ≡ get_or xs q 0
+  mid_after q h =
+      let e : a + k + (q - (a + k)) ≡ q = omega arith in
+      ap (λ (x : ℕ). get_or (put_mid a k xs ys) x 0) (sym e)
+      ∙ sym (get_or-drop (a + k) (put_mid a k xs ys) (q - (a + k)) 0)
+      ∙ ap (λ (l : List ℕ). get_or l (q - (a + k)) 0) (drop-put_mid a k xs ys (a + k) (omega arith) room long)
+      ∙ get_or-drop (a + k) xs (q - (a + k)) 0
+      ∙ ap (λ (x : ℕ). get_or xs x 0) e
+
+-- a part that holds the words from..to all written: the range is set in the whole, and nothing else
+module _ (on : Bool) (from to last : ℕ) (old new : List ℕ) (order : from ≤ to) (low : from / 64 ≤ last) (top : to ≤ last * 64) (tight : last * 64 < to + 64) (room : last ≤ length old)
+    (r : Reached on from to (from / 64) (last - from / 64) (mid_of (from / 64) (last - from / 64) old) new) where
+  abbrev a : ℕ
+  a = from / 64
+
+  abbrev whole : List ℕ
+  whole = put_mid a (last - a) old new
+
+  length_new : length new ≡ last - a
+  length_new = r.long ∙ length-take-le (last - a) (drop a old) (omega (arith, length-drop a old))
 
   -- outside from..to nothing is changed
   outside : (p : ℕ) → (p < from) ⊎ (to ≤ p) → within from to p ≡ false
   outside p o = ⊎_elim (λ h. and_left (leb from p) (ltb p to) (lt-leb from p h)) (λ h. and_right (leb from p) (ltb p to) (le-ltb p to h)) o
 
-  pub reached_all : (new : List ℕ) → from ≤ to → Reached on from to ((to + 63) / 64) old new → Spanned on from to old new
+  before : (q : ℕ) → q < a → get_or whole q 0 ≡ get_or old q 0
+  before = mid_before a (last - a) old new (omega arith) length_new
+
+  after : (q : ℕ) → last ≤ q → get_or whole q 0 ≡ get_or old q 0
+  after q h = mid_after a (last - a) old new (omega arith) length_new q (omega arith)
+
+  -- bit k of a word of the part
+  inside : (q k : ℕ) → a ≤ q → q < last → k < 64 → bit_of (get_or whole q 0) k ≡ cond (within from to (q * 64 + k)) on (bit_of (get_or old q 0) k)
+  inside q k h lt l =
+      let e : a + (q - a) ≡ q = omega arith in
+      ap (λ (x : ℕ). bit_of x k) (mid_in a (last - a) old new (omega arith) length_new q h (omega arith))
+      ∙ r.done (q - a) k (omega arith) l
+      ∙ ap (λ (x : ℕ). cond (within from to ((a + (q - a)) * 64 + k)) on (bit_of x k)) (get_or-take (last - a) (drop a old) (q - a) 0 (omega arith) ∙ get_or-drop a old (q - a) 0)
+      ∙ ap (λ (x : ℕ). cond (within from to (x * 64 + k)) on (bit_of (get_or old x 0) k)) e
+
+  pub reached_all : length whole ≡ length old → Spanned on from to old whole
   unfolding stored
-  reached_all new le r = record {
-    long = r.long;
+  reached_all long = record {
+    long = long;
     bits = λ p.
         let k : p % 64 < 64 = mod_below p 64 (omega arith) in
-        let still : (p < from) ⊎ (to ≤ p) → (p / 64 < from / 64) ⊎ ((to + 63) / 64 ≤ p / 64) → bit_of (get_or new (p / 64) 0) (p % 64) ≡ cond (within from to p) on (bit_of (get_or old (p / 64) 0) (p % 64)) =
-        λ o q. ap (λ (x : ℕ). bit_of x (p % 64)) (r.left (p / 64) q) ∙ sym (cond-false (within from to p) on (bit_of (get_or old (p / 64) 0) (p % 64)) (outside p o)) in
+        let still : (p < from) ⊎ (to ≤ p) → get_or whole (p / 64) 0 ≡ get_or old (p / 64) 0 → bit_of (get_or whole (p / 64) 0) (p % 64) ≡ cond (within from to p) on (bit_of (get_or old (p / 64) 0) (p % 64)) =
+        λ o e. ap (λ (x : ℕ). bit_of x (p % 64)) e ∙ sym (cond-false (within from to p) on (bit_of (get_or old (p / 64) 0) (p % 64)) (outside p o)) in
         ⊎_elim
-        (λ a. still (inl (omega arith)) (inl a))
-        (λ a. ⊎_elim
-        (λ b. r.done (p / 64) (p % 64) a b k ∙ ap (λ (x : ℕ). cond (within from to x) on (bit_of (get_or old (p / 64) 0) (p % 64))) (div-add-mod' p 64))
-        (λ b. still (inr (omega arith)) (inr b))
-        (cases_lt (p / 64) ((to + 63) / 64)))
-        (cases_lt (p / 64) (from / 64));
-    kept = λ w o. r.left w (⊎_elim (λ a. inl (omega arith)) (λ a. inr (omega arith)) o);
+        (λ l. still (inl (omega arith)) (before (p / 64) l))
+        (λ l. ⊎_elim
+        (λ b. inside (p / 64) (p % 64) l b k ∙ ap (λ (x : ℕ). cond (within from to x) on (bit_of (get_or old (p / 64) 0) (p % 64))) (div-add-mod' p 64))
+        (λ b. still (inr (omega (arith, top, b))) (after (p / 64) b))
+        (cases_lt (p / 64) last))
+        (cases_lt (p / 64) a);
+    kept = λ w o. ⊎_elim (λ l. before w (omega (arith, l))) (λ l. after w (omega (arith, l, tight))) o;
   }

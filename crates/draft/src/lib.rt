@@ -52,11 +52,8 @@ impl<W: AsSlice<u64>> LevelMasks for DraftOver<W> {
     ghost lawful = { λ s. draft_lawful s.config (W.AsSlice.items s.words) };
 
     fn config(&self) -> Option<Config> {
-        if words_needed(self.config) <= self.words.as_slice().len() {
-            Some(self.config)
-        } else {
-            None
-        }
+        let there = self.words.as_slice().len();
+        (words_needed(self.config) <= there).then_some(self.config)
     }
 
     fn trusted(&self) -> bool {
@@ -84,6 +81,17 @@ impl<W: AsSlice<u64>> LevelMasks for DraftOver<W> {
     }
 }
 
+impl<W: AsSlice<u64>> DraftOver<W> {
+    // The draft that the words are already; nothing is written.
+    pub fn reopen(words: W, config: Config) -> DraftOver<W>
+        ensures words { result.words ≡ words }
+        ensures config { result.config ≡ config }
+        ensures held { (p : ℕ) → holds (draft config (W.AsSlice.items words)) p ≡ (nat_lt p (capacity (fitting config (length (W.AsSlice.items words)))) && stored (W.AsSlice.items words) p) }
+    {
+        DraftOver { config, words }
+    }
+}
+
 impl<'a> DraftView<'a> {
     // The draft that the words are: it holds the positions below its capacity whose bits are set in them.
     pub fn new(words: &'a [u64], config: Config) -> DraftView<'a>
@@ -91,7 +99,7 @@ impl<'a> DraftView<'a> {
         ensures config { result.config ≡ config }
         ensures held { (p : ℕ) → holds (draft result.config result.words.now) p ≡ (nat_lt p (capacity (fitting config (length words.now))) && stored words.now p) }
     {
-        DraftOver { config, words }
+        DraftOver::reopen(words, config) // read only
     }
 }
 
@@ -126,8 +134,10 @@ fn write_span(words: &mut [u64], from: usize, to: usize, on: bool)
     requires order { from ≤ to }
     ensures { Spanned on from to words.old words.new }
 {
-    for w in from / 64..(to + 63) / 64 {
-        words[w] = splice(words[w], span(w, from, to), on);
+    let first = from / 64;
+    let last = to.div_ceil(64);
+    for (q, word) in words[first..last].iter_mut().enumerate() {
+        *word = splice(*word, span(first + q, from, to), on);
     }
 }
 
@@ -153,16 +163,7 @@ impl<'a> Draft<'a> {
         if n <= words.len() {
             words[0..n].fill(0);
         }
-        Draft::reopen(words, config)
-    }
-
-    // The draft that the words are already; nothing is written.
-    pub fn reopen(words: &'a mut [u64], config: Config) -> Draft<'a>
-        ensures words { result.words.now ≡ words.old }
-        ensures config { result.config ≡ config }
-        ensures lender { result.words.ghost_name ≡ words.entry.ghost_name }
-    {
-        DraftOver { config, words }
+        DraftOver::reopen(words, config)
     }
 
     // The draft to be read.
@@ -170,10 +171,7 @@ impl<'a> Draft<'a> {
         ensures words { result.words.now ≡ self.now.words.now }
         ensures config { result.config ≡ self.now.config }
     {
-        DraftOver {
-            config: self.config,
-            words: self.words,
-        }
+        DraftView::new(self.words, self.config)
     }
 
     // Sets the bits of from..to, where that is a range of the draft.
