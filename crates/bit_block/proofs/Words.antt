@@ -62,10 +62,11 @@ same-and true q e = e
 same-and false q e = refl
 
 -- n words of ones raise every bit below n * 64
-pub full-bits : (n a b c d : ℕ) → n ≤ 4 → a ≡ cond (ltb 0 n) (2 ^ 64 - 1) 0 → b ≡ cond (ltb 1 n) (2 ^ 64 - 1) 0 → c ≡ cond (ltb 2 n) (2 ^ 64 - 1) 0 → d ≡ cond (ltb 3 n) (2 ^ 64 - 1) 0
-    → (t : ℕ) → raised (record { words = a ∷ b ∷ c ∷ d ∷ [] }) t ≡ ltb t (n * 64)
-full-bits n a b c d le p q r s t =
-    lanes_bits (λ _. 2 ^ 64 - 1) n (a ∷ b ∷ c ∷ d ∷ []) (four (λ _. 2 ^ 64 - 1) n a b c d le p q r s) t
+pub full-bits : (n : ℕ) (r : List ℕ) → n ≤ 4 → length r ≡ 4 → ((q : ℕ) → q < 4 → get_or r q 0 ≡ cond (ltb q n) (2 ^ 64 - 1) 0)
+    → (t : ℕ) → raised (record { words = r }) t ≡ ltb t (n * 64)
+full-bits n r le l is t =
+    lanes_bits (λ _. 2 ^ 64 - 1) n r (λ q. ⊎_elim (is q)
+    (λ ge. get_or_past r q 0 (omega (arith, l)) ∙ sym (cond-false (ltb q n) (2 ^ 64 - 1) 0 (le-ltb q n (omega arith)))) (cases_lt q 4)) t
     ∙ same-and (ltb t (n * 64)) (bit_of (2 ^ 64 - 1) (t % 64)) (bit_ones (t % 64) (mod_below t 64 (omega arith)))
 
 -- the one raised bit of a power of two

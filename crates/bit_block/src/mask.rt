@@ -59,16 +59,9 @@ impl Mask {
     pub fn full(width: Width) -> Mask
         ensures { (t : ℕ) → raised result t ≡ nat_lt t (bits width) }
     {
-        match width {
-            Width::W64 => Mask {
-                words: [u64::MAX, 0, 0, 0],
-            },
-            Width::W128 => Mask {
-                words: [u64::MAX, u64::MAX, 0, 0],
-            },
-            Width::W256 => Mask {
-                words: [u64::MAX; 4],
-            },
+        let count = width.bits() / 64;
+        Mask {
+            words: array::from_fn(|q| if q < count { u64::MAX } else { 0 }),
         }
     }
 
