@@ -14,6 +14,10 @@ layer f0 f1 f2 trusted a b = record {
   up2 = λ i j k. live a.conf b.conf && f2 (a.up2 i j k) (b.up2 i j k);
 }
 
+-- that of an operation: on the bits of levels 0 and 1, on data bits, and whether it keeps the trust of the two
+abbrev pub applied : (Bool → Bool → Bool) → (Bool → Bool → Bool) → Bool → Source → Source → Source
+applied upper bits keeps a b = layer upper upper bits (keeps && (a.trust && b.trust)) a b
+
 abbrev pub both : Source → Source → Source
 both a b = layer (λ p q. p && q) (λ p q. p && q) (λ p q. p && q) false a b
 

@@ -1,3 +1,4 @@
+pub mod Operations
 pub mod Layer
 pub mod Shares
 pub mod Lawfulness

@@ -136,10 +136,10 @@ fn laid<'n, 'v>(
     b: DraftView<'v>,
 ) -> Result<Positions, Declined<'n>> {
     match layer {
-        Layer::Both => Positions::of(heap, &Both(a, b)),
-        Layer::Either => Positions::of(heap, &Either(a, b)),
-        Layer::Without => Positions::of(heap, &Without(a, b)),
-        Layer::OneOf => Positions::of(heap, &OneOf(a, b)),
+        Layer::Both => Positions::of(heap, &Both::new(a, b)),
+        Layer::Either => Positions::of(heap, &Either::new(a, b)),
+        Layer::Without => Positions::of(heap, &Without::new(a, b)),
+        Layer::OneOf => Positions::of(heap, &OneOf::new(a, b)),
     }
 }
 

@@ -1,0 +1,82 @@
+-- Operations on bits, and the laws that make a layer of one lawful.
+use Rattle.std.specs.Prelude.{◌≡◌, Bool, true, false, not, ◌&&◌, ◌||◌, ◌⊎◌, refl}
+use Rattle.std.proofs.Common.{inl, inr, ⊎_elim}
+use Rattle.std.proofs.lemmas.Bool.{and_parts, and_from, or_cases, or_left, or_right, false≢true}
+use Rattle.bit_block.specs.Bit.{exclusive}
+
+-- an operation on bits that raises none where neither is raised
+abbrev pub Raises : (Bool → Bool → Bool) → Type 0
+Raises f = (p q : Bool) → f p q ≡ true → (p ≡ true) ⊎ (q ≡ true)
+
+-- where g raises a bit, f does at bits that are above
+abbrev pub Above : (Bool → Bool → Bool) → (Bool → Bool → Bool) → Type 0
+Above f g = (p q p' q' : Bool) → (p ≡ true → p' ≡ true) → (q ≡ true → q' ≡ true) → g p q ≡ true → f p' q' ≡ true
+
+-- an operation that raises a bit where either is raised
+abbrev pub Covers : (Bool → Bool → Bool) → Type 0
+Covers f = (p q : Bool) → (p ≡ true) ⊎ (q ≡ true) → f p q ≡ true
+
+-- of the operation on bits of levels 0 and 1, of that on data bits, and of whether a layer keeps trust
+pub record OperationLaws (upper bits : Bool → Bool → Bool) (keeps : Bool) : Type 0 where
+  pub upper_raises : Raises upper
+  pub bits_raises : Raises bits
+  pub upper_above : Above upper upper
+  pub bits_above : Above upper bits
+  pub upper_covers : keeps ≡ true → Covers upper
+  pub bits_covers : keeps ≡ true → Covers bits
+
+or_covers : Covers (λ p q. p || q)
+or_covers p q h = ⊎_elim (or_left p q) (or_right p q) h
+
+and_raises : Raises (λ p q. p && q)
+and_raises p q e = inl (and_parts p q e).0
+
+one_raises : Raises exclusive
+one_raises true q e = inl refl
+one_raises false q e = inr e
+
+and_above : Above (λ p q. p && q) (λ p q. p && q)
+and_above p q p' q' f g e = let l = and_parts p q e in and_from p' q' (f l.0) (g l.1)
+
+or_above : (f : Bool → Bool → Bool) → Raises f → Above (λ p q. p || q) f
+or_above f r p q p' q' hp hq e = ⊎_elim (λ t. or_left p' q' (hp t)) (λ t. or_right p' q' (hq t)) (r p q e)
+
+pub and_laws : OperationLaws (λ p q. p && q) (λ p q. p && q) false
+and_laws = record {
+  upper_raises = and_raises;
+  bits_raises = and_raises;
+  upper_above = and_above;
+  bits_above = and_above;
+  upper_covers = λ t. absurd (false≢true t);
+  bits_covers = λ t. absurd (false≢true t);
+}
+
+pub or_laws : OperationLaws (λ p q. p || q) (λ p q. p || q) true
+or_laws = record {
+  upper_raises = or_cases;
+  bits_raises = or_cases;
+  upper_above = or_above (λ p q. p || q) or_cases;
+  bits_above = or_above (λ p q. p || q) or_cases;
+  upper_covers = λ t. or_covers;
+  bits_covers = λ t. or_covers;
+}
+
+pub sub_laws : OperationLaws (λ p q. p) (λ p q. p && not q) false
+sub_laws = record {
+  upper_raises = λ p q e. inl e;
+  bits_raises = λ p q e. inl (and_parts p (not q) e).0;
+  upper_above = λ p q p' q' f g e. f e;
+  bits_above = λ p q p' q' f g e. f (and_parts p (not q) e).0;
+  upper_covers = λ t. absurd (false≢true t);
+  bits_covers = λ t. absurd (false≢true t);
+}
+
+pub xor_laws : OperationLaws (λ p q. p || q) exclusive false
+xor_laws = record {
+  upper_raises = or_cases;
+  bits_raises = one_raises;
+  upper_above = or_above (λ p q. p || q) or_cases;
+  bits_above = or_above exclusive one_raises;
+  upper_covers = λ t. absurd (false≢true t);
+  bits_covers = λ t. absurd (false≢true t);
+}
