@@ -18,6 +18,11 @@ abbrev pub RunFrom : (ℕ → Bool) → ℕ → Option Run → Type 0
 RunFrom f p None = (t : ℕ) → p ≤ t → f t ≡ false
 RunFrom f p (Some r) = First f p r
 
+-- a step of a walk over the runs, from `at` on: it gives the first run and stands at its end, or gives none and stays
+abbrev pub RunStep : (ℕ → Bool) → ℕ → Option Run → ℕ → Type 0
+RunStep f at None next = RunFrom f at None × (next ≡ at)
+RunStep f at (Some r) next = First f at r × (next ≡ r.to)
+
 -- `new` is `old` with the positions that s holds added
 pub record Adds (s : Source) (old new : List ℕ) : Type 0 where
   pub long : length new ≡ length old

@@ -5,6 +5,7 @@ ghost use Rattle.certificate.specs.Runs.{RunFrom};
 ghost use Rattle.certificate.specs.Faults.{fault};
 
 use crate::runs::{Run, next_run};
+use bit_block::config::common;
 use bitset_interface::LevelMasks;
 use ops::{OneOf, Without};
 
@@ -20,7 +21,7 @@ pub enum Condition {
 pub fn comparable<A: LevelMasks, B: LevelMasks>(a: &A, b: &B) -> bool
     ensures { result ≡ live (A.LevelMasks.means a.now).conf (B.LevelMasks.means b.now).conf }
 {
-    Without::new(a, b).config().is_some()
+    common(a.config(), b.config()).is_some()
 }
 
 // The first run at or above p of positions at which two sources break the condition.

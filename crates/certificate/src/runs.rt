@@ -1,12 +1,13 @@
 // The maximal runs of positions that a source holds.
-ghost use Rattle.std.specs.Prelude.{◌≡◌, ℕ, ◌<◌, ◌≤◌, Bool, true, false, cond, ◌||◌, length, nat_le};
+ghost use Rattle.std.specs.Prelude.{◌≡◌, ℕ, ◌-◌, ◌<◌, ◌≤◌, Bool, true, false, cond, ◌||◌, length, nat_le};
+ghost use Rattle.std.specs.Iterator.{at_most};
 ghost use Rattle.bit_block.specs.Ranges.{count};
 ghost use Rattle.bit_block.specs.Widths.{capacity};
 ghost use Rattle.bitset_interface.specs.Source.{Source, holds};
 ghost use Rattle.draft.specs.Drafts.{stored, fitting};
 ghost use Rattle.bitset_interface.specs.Refusals.{unless};
 ghost use Rattle.draft.specs.Refusals.{refusal, bad_range};
-ghost use Rattle.certificate.specs.Runs.{RunFrom, Added};
+ghost use Rattle.certificate.specs.Runs.{RunFrom, RunStep, Added};
 
 use crate::complement::Complement;
 use bitset_interface::LevelMasks;
@@ -32,15 +33,42 @@ pub fn next_run<S: LevelMasks>(s: &S, p: usize) -> Option<Run>
     Some(Run { from, to })
 }
 
+// The runs of a source one after another, from the position on that the walk stands at.
+#[derive(Drop)]
+pub struct Runs<S> {
+    pub source: S,
+    pub at: usize,
+}
+
+// Every run of a source, in rising position.
+pub fn runs_of<S>(source: S) -> Runs<S>
+    ensures source { result.source ≡ source }
+    ensures at { result.at ≡ 0 }
+{
+    Runs { source, at: 0 }
+}
+
+impl<S: LevelMasks + Drop> Iterator for Runs<S> {
+    type Item = Run;
+
+    ghost next_gives = { λ s r t. (t.source ≡ s.source) × RunStep (holds (S.LevelMasks.means s.source)) s.at r t.at };
+
+    ghost remaining = { λ s. at_most (capacity (S.LevelMasks.means s.source).conf - s.at) };
+
+    fn next(&mut self) -> Option<Run> {
+        let run = next_run(&self.source, self.at)?;
+        self.at = run.to;
+        Some(run)
+    }
+}
+
 // How many positions the source holds.
 pub fn count_held<S: LevelMasks>(s: &S) -> usize
     ensures { result ≡ count (holds (S.LevelMasks.means s.now)) (capacity (S.LevelMasks.means s.now).conf) }
 {
     let mut held = 0;
-    let mut at = 0;
-    while let Some(run) = next_run(s, at) {
+    for run in runs_of(s) {
         held += run.to - run.from;
-        at = run.to;
     }
     held
 }
@@ -55,10 +83,8 @@ pub fn mark_all<S: LevelMasks>(s: &S, draft: &mut Draft<'_>) -> Result<(), Draft
     if capacity_of(s) > capacity_of(draft) {
         return Err(DraftError::BadRange);
     }
-    let mut at = 0;
-    while let Some(run) = next_run(s, at) {
+    for run in runs_of(s) {
         draft.mark(run.from, run.to)?;
-        at = run.to;
     }
     Ok(())
 }
