@@ -5,7 +5,7 @@ use Rattle.certificate.specs.Faults.{fault}
 use Rattle.certificate.specs.declared.conditions.Condition.{Condition}
 use Rattle.certificate.specs.declared.conditions.Condition.TheVariants.{Inside, Same}
 use Rattle.stylebook.specs.declared.answer.Answer.{Answer}
-use Rattle.stylebook.specs.declared.answer.Answer.TheVariants.{Done, Refused, Held, Position, Runs, Count, Packed, Words, Faults}
+use Rattle.stylebook.specs.declared.answer.Answer.TheVariants.{Faults}
 use Rattle.commands.specs.declared.verb.Rule.{Rule}
 use Rattle.commands.specs.declared.verb.Rule.TheVariants.{Emphasis, Languages, Notes, Pages}
 use Rattle.stylebook.specs.Listed.{AllRuns}
@@ -19,12 +19,5 @@ condition_of Pages = Same
 
 -- the answer has every run of positions at which a and b break the rule, and nothing else
 abbrev pub Verdict : Rule → Source → Source → Answer → Type 0
-Verdict rule a b Done = ⊥
-Verdict rule a b (Refused r) = ⊥
-Verdict rule a b (Held h) = ⊥
-Verdict rule a b (Position p) = ⊥
-Verdict rule a b (Runs v) = ⊥
-Verdict rule a b (Count n) = ⊥
-Verdict rule a b (Packed n d words) = ⊥
-Verdict rule a b (Words v) = ⊥
 Verdict rule a b (Faults told v) = (told ≡ rule) × AllRuns (fault (condition_of rule) a b) 0 (vec_items v)
+Verdict rule a b _ = ⊥

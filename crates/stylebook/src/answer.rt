@@ -11,8 +11,8 @@ use crate::sets::{NamedSet, Positions, Sets};
 use bit_block::config::Config;
 use bitset_interface::LevelMasks;
 use bitset_interface::walk::{contains, next_from};
-use certificate::conditions::{Condition, comparable, next_fault};
-use certificate::runs::{Run, count_held, next_run};
+use certificate::conditions::{Condition, comparable};
+use certificate::runs::{Run, count_held, runs_of};
 use commands::command::{Command, Pair};
 use commands::error::LineError;
 use commands::verb::{Layer, Rule};
@@ -147,13 +147,7 @@ fn laid<'n, 'v>(
 fn runs<S: LevelMasks>(heap: Global, set: &S) -> Result<Vec<Run>, AllocError>
     ensures { IfOk result (λ v. AllRuns (holds (S.LevelMasks.means set.now)) 0 v.items) }
 {
-    let mut found = Vec::new(heap);
-    let mut at = 0;
-    while let Some(run) = next_run(set, at) {
-        found.push(run)?;
-        at = run.to;
-    }
-    Ok(found)
+    runs_of(set).collect(heap)
 }
 
 // The condition that a rule puts to its two sets.
@@ -175,13 +169,10 @@ fn faults<A: LevelMasks, B: LevelMasks>(
 ) -> Result<Vec<Run>, AllocError>
     ensures { IfOk result (λ v. AllRuns (fault condition (A.LevelMasks.means a.now) (B.LevelMasks.means b.now)) 0 v.items) }
 {
-    let mut found = Vec::new(heap);
-    let mut at = 0;
-    while let Some(run) = next_fault(condition, a, b, at) {
-        found.push(run)?;
-        at = run.to;
+    match condition {
+        Condition::Inside => runs(heap, &Without::new(a, b)),
+        Condition::Same => runs(heap, &OneOf::new(a, b)),
     }
-    Ok(found)
 }
 
 // Checks a rule on two sets.

@@ -1,17 +1,13 @@
-use Rattle.std.proofs.Common.{[], ◌∷◌, vec_items, refl}
-use Rattle.std.proofs.lemmas.Slice.{pushed}
-use Rattle.certificate.specs.Faults.{fault}
-use Rattle.stylebook.proofs.Pushed.{run_pushed, run_last}
+use Rattle.stylebook.proofs.Listed.{all_runs_same}
 use Rattle.stylebook.proofs.answer.faults.Goals as goal
 
-pub loop-run-preserved : goal.loop-run-preserved
-loop-run-preserved g c =
-    run_pushed (fault c.args.condition (g.A.LevelMasks.means c.args.a.now) (g.B.LevelMasks.means c.args.b.now))
-    c.loop-run.at (vec_items c.loop-run.found) c.loop-run.invariant
-    c.in-Some.run' c.in-Some.ensures (vec_items c.push.new.self)
-    (pushed (c.in-Some.run' ∷ []) refl c.in_ok-push.was c.push.ensures.items)
+pub returns-in-Inside : goal.returns-in-Inside
+returns-in-Inside g c =
+    rw c.in-Inside.is
+    (all_runs_same _ _ c.new.ensures.held c.runs.result (rw (c.new.ensures.first, c.new.ensures.second) at c.runs.ensures))
 
-pub returns : goal.returns
-returns g c =
-    run_last (fault c.args.condition (g.A.LevelMasks.means c.args.a.now) (g.B.LevelMasks.means c.args.b.now))
-    c.loop-run.at (vec_items c.loop-run.found) c.loop-run.invariant c.in_default.ensures
+pub returns-in-Same : goal.returns-in-Same
+returns-in-Same g c =
+    rw c.in-Same.is
+    (all_runs_same _ _ c.new-in-Same.ensures.held c.runs-in-Same.result
+    (rw (c.new-in-Same.ensures.first, c.new-in-Same.ensures.second) at c.runs-in-Same.ensures))

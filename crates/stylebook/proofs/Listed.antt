@@ -1,0 +1,35 @@
+-- The runs that a walk gives are every run of its source.
+use Rattle.std.specs.Prelude.{◌≡◌, ℕ, Bool, List, [], ◌∷◌, Some, None, Option, Result, Ok, Err, IfOk, Vec, vec_items}
+use Rattle.std.specs.Iterator.{Yields}
+use Rattle.std.proofs.lemmas.Iterator.{IsCollectResult}
+use Rattle.bitset_interface.specs.Source.{Source, holds}
+use Rattle.certificate.specs.declared.runs.Run.{Run}
+use Rattle.certificate.specs.declared.runs.Runs.{Runs}
+use Rattle.certificate.specs.Runs.{RunStep}
+use Rattle.certificate.proofs.Maximal.{run_same}
+use Rattle.stylebook.specs.Listed.{AllRuns}
+
+module _ {S : Type 0} (means : S → Source) where
+  -- a step of a walk
+  abbrev pub Walks : Runs S → Option Run → Runs S → Type 0
+  Walks s r t = (t.source ≡ s.source) × RunStep (holds (means s.source)) s.at r t.at
+
+  -- what a walk gives up to its end
+  walked : (rs : List Run) (s t u : Runs S) → Yields Walks s rs t → Walks t None u → AllRuns (holds (means s.source)) s.at rs
+  walked [] s t u y end = rw y end.1.0
+  walked (r ∷ rs) s t u (next, step, rest) end = (step.1.0, rw (step.0, step.1.1) at (walked rs next t u rest end))
+
+  -- and what a walk is collected to
+  pub runs_collected : {Z E : Type 0} (r : Result (Vec Run Z) E) (s : Runs S) → IsCollectResult Walks s r → IfOk r (λ v. AllRuns (holds (means s.source)) s.at (vec_items v))
+  runs_collected (Ok v) s (rs, (t, y, end), is) = rw is.0 (walked rs s t (end tt).0 y (end tt).1)
+  runs_collected (Err e) s h = tt
+
+module _ (f g : ℕ → Bool) (same : (t : ℕ) → f t ≡ g t) where
+  -- tests that agree have the same runs
+  all_same : (p : ℕ) (rs : List Run) → AllRuns f p rs → AllRuns g p rs
+  all_same p [] h = run_same f g same p None h
+  all_same p (r ∷ rs) h = (run_same f g same p (Some r) h.0, all_same r.to rs h.1)
+
+  pub all_runs_same : {Z E : Type 0} (r : Result (Vec Run Z) E) → IfOk r (λ v. AllRuns f 0 (vec_items v)) → IfOk r (λ v. AllRuns g 0 (vec_items v))
+  all_runs_same (Ok v) h = all_same 0 (vec_items v) h
+  all_runs_same (Err e) h = tt
