@@ -18,13 +18,13 @@ pub trait BitSetOp {
     // Whether a layer over two trusted sources is trusted.
     const TRUSTED_HIERARCHY: bool;
 
-    ghost laws: { OperationLaws hierarchy_bit data_bit TRUSTED_HIERARCHY };
-
     fn hierarchy_op(left: Mask, right: Mask) -> Mask
         ensures { (t : ℕ) → raised result t ≡ hierarchy_bit (raised left t) (raised right t) };
 
     fn data_op(left: Mask, right: Mask) -> Mask
         ensures { (t : ℕ) → raised result t ≡ data_bit (raised left t) (raised right t) };
+
+    ghost laws: { OperationLaws hierarchy_bit data_bit TRUSTED_HIERARCHY };
 }
 
 // What both raise.

@@ -21,7 +21,7 @@ overflow_add-held g c =
       count_le (holds (g.S.LevelMasks.means c.args.s.now)) c.loop-run.run-iterator.at,
       h.above,
       h.some,
-      run_small (g.S.LevelMasks.means c.args.s.now) (g.S.LevelMasks.lawful c.args.s.now) c.loop-run.run-iterator.at c.in-Some.run' h,
+      run_small (g.S.LevelMasks.means c.args.s.now) (g.met.S.LevelMasks.lawful c.args.s.now) c.loop-run.run-iterator.at c.in-Some.run' h,
     )
 
 pub loop-run-preserved : goal.loop-run-preserved
@@ -32,7 +32,7 @@ loop-run-preserved g c =
       tt,
       cc,
       rw end (omega (arith, c.loop-run.invariant.3, count_run (holds (g.S.LevelMasks.means c.args.s.now)) c.loop-run.run-iterator.at c.in-Some.run' h)),
-      rw end (run_within (g.S.LevelMasks.means c.args.s.now) (g.S.LevelMasks.lawful c.args.s.now) c.loop-run.run-iterator.at c.in-Some.run' h),
+      rw end (run_within (g.S.LevelMasks.means c.args.s.now) (g.met.S.LevelMasks.lawful c.args.s.now) c.loop-run.run-iterator.at c.in-Some.run' h),
     )
 
 pub returns : goal.returns
