@@ -1,5 +1,5 @@
 -- Marking a source's runs one after another.
-use Rattle.std.proofs.Common.{◌≡◌, ℕ, ◌≤◌, Bool, true, false, cond, ◌&&◌, ◌||◌, ltb, leb, List, length, Some, None, Err, Option, sym, refl, ap, ◌∙◌, subst, ap₂, ⊎_elim, arith}
+use Rattle.std.proofs.Common.{◌≡◌, ℕ, ◌≤◌, Bool, true, false, cond, ◌&&◌, ◌||◌, ltb, leb, List, length, Some, None, Err, Option, sym, ap, ◌∙◌, subst, ap₂, ⊎_elim, arith}
 use Rattle.std.proofs.lemmas.Bool.{cases_lt, lt-ltb, le-ltb, le-leb, lt-leb, and_from, and_left, and_right, or_left, cond-true, cond-false}
 use Rattle.bit_block.specs.declared.config.Config.{Config}
 use Rattle.bit_block.specs.Widths.{capacity}
@@ -18,9 +18,6 @@ pub record Part (s : Source) (at : ℕ) (old new : List ℕ) : Type 0 where
   pub bits : (p : ℕ) → stored new p ≡ ((ltb p at && holds s p) || stored old p)
 
 module _ (s : Source) (old : List ℕ) where
-  pub part_none : Part s 0 old old
-  part_none = record { long = refl; bits = λ p. sym (ap (λ (b : Bool). (b && holds s p) || stored old p) (le-ltb p 0 (omega arith))) }
-
   -- one run more
   pub part_more : (at : ℕ) (r : Run) (mid new : List ℕ) → First (holds s) at r → Part s at old mid → Spanned true r.from r.to mid new → Part s r.to old new
   part_more at r mid new h part sp = record {

@@ -4,6 +4,7 @@ use Rattle.bit_block.specs.Widths.{capacity}
 use Rattle.bitset_interface.specs.Source.{Source, holds}
 use Rattle.draft.specs.Drafts.{stored}
 use Rattle.certificate.specs.declared.runs.Run.{Run}
+use Rattle.certificate.specs.declared.runs.Runs.{Runs}
 
 -- r.from..r.to passes whole and could not be longer, and nothing passes from p to r.from
 pub record First (f : ℕ → Bool) (p : ℕ) (r : Run) : Type 0 where
@@ -18,10 +19,16 @@ abbrev pub RunFrom : (ℕ → Bool) → ℕ → Option Run → Type 0
 RunFrom f p None = (t : ℕ) → p ≤ t → f t ≡ false
 RunFrom f p (Some r) = First f p r
 
--- a step of a walk over the runs, from `at` on: it gives the first run and stands at its end, or gives none and stays
-abbrev pub RunStep : (ℕ → Bool) → ℕ → Option Run → ℕ → Type 0
-RunStep f at None next = RunFrom f at None × (next ≡ at)
-RunStep f at (Some r) next = First f at r × (next ≡ r.to)
+-- the end of the run that was found; where none was, the same place
+abbrev pub past : ℕ → Option Run → ℕ
+past at None = at
+past at (Some r) = r.to
+
+-- what a step of a walk gives: the first run from the place that was reached, and then its end is reached
+pub record Walks {S : Type 0} (means : S → Source) (s : Runs S) (r : Option Run) (t : Runs S) : Type 0 where
+  pub first : RunFrom (holds (means s.source)) s.at r
+  pub source : t.source ≡ s.source
+  pub reached : t.at ≡ past s.at r
 
 -- `new` is `old` with the positions that s holds added
 pub record Adds (s : Source) (old new : List ℕ) : Type 0 where

@@ -32,13 +32,11 @@ impl<S: LevelMasks> LevelMasks for Complement<S> {
     }
 
     fn data_mask(&self, i: usize, j: usize) -> Mask {
-        let Some(c) = self.0.config() else {
-            return Mask::zero();
-        };
-        if i < c.level0.bits() && j < c.level1.bits() {
-            Mask::full(c.data).without(self.0.data_mask(i, j))
-        } else {
-            Mask::zero()
+        match self.0.config() {
+            Some(c) if i < c.level0.bits() && j < c.level1.bits() => {
+                Mask::full(c.data).without(self.0.data_mask(i, j))
+            }
+            _ => Mask::zero(),
         }
     }
 }

@@ -7,7 +7,7 @@ ghost use Rattle.bitset_interface.specs.Source.{Source, holds};
 ghost use Rattle.draft.specs.Drafts.{stored, fitting};
 ghost use Rattle.bitset_interface.specs.Refusals.{unless};
 ghost use Rattle.draft.specs.Refusals.{refusal, bad_range};
-ghost use Rattle.certificate.specs.Runs.{RunFrom, RunStep, Added};
+ghost use Rattle.certificate.specs.Runs.{RunFrom, Walks, Added};
 
 use crate::complement::Complement;
 use bitset_interface::LevelMasks;
@@ -51,7 +51,7 @@ pub fn runs_of<S>(source: S) -> Runs<S>
 impl<S: LevelMasks + Drop> Iterator for Runs<S> {
     type Item = Run;
 
-    ghost next_gives = { λ s r t. (t.source ≡ s.source) × RunStep (holds (S.LevelMasks.means s.source)) s.at r t.at };
+    ghost next_gives = { Walks S.LevelMasks.means };
 
     ghost remaining = { λ s. at_most (capacity (S.LevelMasks.means s.source).conf - s.at) };
 

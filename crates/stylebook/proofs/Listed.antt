@@ -10,17 +10,13 @@ use Rattle.certificate.proofs.Maximal.{run_same}
 use Rattle.stylebook.specs.Listed.{AllRuns}
 
 module _ {S : Type 0} (means : S → Source) where
-  -- a step of a walk
-  abbrev pub Walks : Runs S → Option Run → Runs S → Type 0
-  Walks s r t = (t.source ≡ s.source) × RunStep (holds (means s.source)) s.at r t.at
-
   -- what a walk gives up to its end
-  walked : (rs : List Run) (s t u : Runs S) → Yields Walks s rs t → Walks t None u → AllRuns (holds (means s.source)) s.at rs
-  walked [] s t u y end = rw y end.1.0
-  walked (r ∷ rs) s t u (next, step, rest) end = (step.1.0, rw (step.0, step.1.1) at (walked rs next t u rest end))
+  walked : (rs : List Run) (s t u : Runs S) → Yields (Walks means) s rs t → Walks means t None u → AllRuns (holds (means s.source)) s.at rs
+  walked [] s t u y end = rw y end.first
+  walked (r ∷ rs) s t u (next, step, rest) end = (step.first, rw (step.source, step.reached) at (walked rs next t u rest end))
 
   -- and what a walk is collected to
-  pub runs_collected : {Z E : Type 0} (r : Result (Vec Run Z) E) (s : Runs S) → IsCollectResult Walks s r → IfOk r (λ v. AllRuns (holds (means s.source)) s.at (vec_items v))
+  pub runs_collected : {Z E : Type 0} (r : Result (Vec Run Z) E) (s : Runs S) → IsCollectResult (Walks means) s r → IfOk r (λ v. AllRuns (holds (means s.source)) s.at (vec_items v))
   runs_collected (Ok v) s (rs, (t, y, end), is) = rw is.0 (walked rs s t (end tt).0 y (end tt).1)
   runs_collected (Err e) s h = tt
 

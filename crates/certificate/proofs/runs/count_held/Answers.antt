@@ -14,7 +14,7 @@ loop-run-init g c =
 
 pub overflow_add-held : goal.overflow_add-held
 overflow_add-held g c =
-    let h = rw c.loop-run.invariant.2 at c.in-Some.ensures.steps.1.0 in
+    let h = rw c.loop-run.invariant.2 at c.in-Some.ensures.steps.first in
     omega (
       arith,
       c.loop-run.invariant.3,
@@ -26,8 +26,8 @@ overflow_add-held g c =
 
 pub loop-run-preserved : goal.loop-run-preserved
 loop-run-preserved g c =
-    let h = rw c.loop-run.invariant.2 at c.in-Some.ensures.steps.1.0 in
-    let end = c.in-Some.ensures.steps.1.1 in (
+    let h = rw c.loop-run.invariant.2 at c.in-Some.ensures.steps.first in
+    let end = c.in-Some.ensures.steps.reached in (
       tt,
       tt,
       cc,
@@ -37,6 +37,6 @@ loop-run-preserved g c =
 
 pub returns : goal.returns
 returns g c =
-    let h = rw c.loop-run.invariant.2 at c.in-None.ensures.steps.1.0 in
+    let h = rw c.loop-run.invariant.2 at c.in-None.ensures.steps.first in
     c.loop-run.invariant.3
     ∙ sym (count_past (holds (g.S.LevelMasks.means c.args.s.now)) c.loop-run.run-iterator.at (capacity (g.S.LevelMasks.means c.args.s.now).conf) c.loop-run.invariant.4 h)

@@ -10,7 +10,7 @@ use Rattle.bitset_interface.specs.Source.{holds}
 
 -- the run of a turn is the first that the source holds from where the walk stood
 first : (g : _) (c : In-Some g) → First (holds (g.S.LevelMasks.means c.args.s.now)) c.loop-run.run-iterator.at c.in-Some.run'
-first g c = rw c.loop-run.invariant.2 at c.in-Some.ensures.steps.1.0
+first g c = rw c.loop-run.invariant.2 at c.in-Some.ensures.steps.first
 
 -- and a good range of the draft
 good : (g : _) (c : In-Some g) → good_range (fitting c.loop-run.draft.config (length c.loop-run.draft.words.now)) c.in-Some.run'.from c.in-Some.run'.to ≡ true
@@ -31,7 +31,7 @@ loop-run-preserved g c =
       cc,
       c.mark.ensures.config ∙ c.loop-run.invariant.3,
       c.mark.ensures.lender ∙ c.loop-run.invariant.4,
-      rw c.in-Some.ensures.steps.1.1 (part_more (g.S.LevelMasks.means c.args.s.now) c.args.draft.now.words.now c.loop-run.run-iterator.at r c.loop-run.draft.words.now c.mark.new.self.words.now (first g turn) c.loop-run.invariant.5
+      rw c.in-Some.ensures.steps.reached (part_more (g.S.LevelMasks.means c.args.s.now) c.args.draft.now.words.now c.loop-run.run-iterator.at r c.loop-run.draft.words.now c.mark.new.self.words.now (first g turn) c.loop-run.invariant.5
           (spanned (fitting c.loop-run.draft.config (length c.loop-run.draft.words.now)) r.from r.to c.loop-run.draft.words.now c.mark.new.self.words.now (good g turn) c.mark.ensures.sets)),
     )
 
@@ -40,4 +40,4 @@ returns-clause-added g c =
     let fits : capacity (g.S.LevelMasks.means c.args.s.now).conf ≤ capacity (fitting c.args.draft.now.config (length c.args.draft.now.words.now)) = omega (arith, c.if-capacity_of.false) in
     rw (le-leb _ _ fits)
     (part_all (g.S.LevelMasks.means c.args.s.now) c.args.draft.now.words.now c.loop-run.run-iterator.at c.loop-run.draft.words.now
-    (rw c.loop-run.invariant.2 at c.in-None.ensures.steps.1.0) c.loop-run.invariant.5)
+    (rw c.loop-run.invariant.2 at c.in-None.ensures.steps.first) c.loop-run.invariant.5)
