@@ -67,11 +67,11 @@ impl BitSetOp for Or {
     const TRUSTED_HIERARCHY: bool = true;
 
     fn hierarchy_op(left: Mask, right: Mask) -> Mask {
-        left.or(right)
+        left.or(right) // where one has a block
     }
 
     fn data_op(left: Mask, right: Mask) -> Mask {
-        left.or(right)
+        left.or(right) // the positions in at least one
     }
 }
 
@@ -91,7 +91,7 @@ impl BitSetOp for Sub {
     const TRUSTED_HIERARCHY: bool = false; // taking away may empty a block that stays raised
 
     fn hierarchy_op(left: Mask, _right: Mask) -> Mask {
-        left
+        left // a block may stay, whatever is taken from it
     }
 
     fn data_op(left: Mask, right: Mask) -> Mask {
@@ -115,7 +115,7 @@ impl BitSetOp for Xor {
     const TRUSTED_HIERARCHY: bool = false;
 
     fn hierarchy_op(left: Mask, right: Mask) -> Mask {
-        left.or(right)
+        Or::hierarchy_op(left, right)
     }
 
     fn data_op(left: Mask, right: Mask) -> Mask {
