@@ -47,11 +47,3 @@ pub run_good : (s : Source) → Lawful s → (at : ℕ) (r : Run) → First (hol
 run_good s law at r h c d xs ys e l fits =
     let same : capacity (fitting c (length xs)) ≡ capacity (fitting d (length ys)) = ap capacity (ap₂ fitting e l) in
     grind (arith, nat_tests, h.some, run_within s law at r h)
-
--- what a call does that sets a good range
-pub spanned : (o : Option Config) (from to : ℕ) (old new : List ℕ) → good_range o from to ≡ true → Sets true o from to old new → Spanned true from to old new
-spanned o from to old new e h = rw e at h
-
--- a good range is not refused
-pub accepted : (b : Bool) (e : DraftError) → b ≡ true → refusal {A = Unit {0}} (Err e) ≡ unless b bad_range → ⊥
-accepted b e t h = let z = rw t at h in cc

@@ -1,6 +1,7 @@
 -- A run from the least held position to the least position after it that is not held.
-use Rattle.std.proofs.Common.{◌≡◌, ℕ, ◌^◌, ◌<◌, ◌≤◌, Bool, true, false, not, ◌&&◌, ltb, Some, None, Option, sym, ap, ◌∙◌, ⊎_elim, arith}
+use Rattle.std.proofs.Common.{◌≡◌, ℕ, ◌-◌, ◌^◌, ◌<◌, ◌≤◌, Bool, true, false, not, ◌&&◌, ltb, Some, None, Option, sym, ap, ◌∙◌, ⊎_elim, arith}
 use Rattle.std.proofs.lemmas.Bool.{cases_lt, cases_eq, both_ways, lt-ltb, le-ltb, ltb-true, and_parts, and_left, not-true, not-false}
+use Rattle.std.proofs.lemmas.Bool.Decides.{nat_tests}
 use Rattle.bit_block.specs.Bit.{Least}
 use Rattle.bit_block.specs.Widths.{capacity}
 use Rattle.bitset_interface.specs.Source.{Source, Lawful, bit_at, holds}
@@ -30,24 +31,21 @@ module _ (s : Source) (law : Lawful s) where
 
   -- a position that neither holds lies past the capacity
   held_if : (t : ℕ) → t < capacity s.conf → holds (complement s) t ≡ false → holds s t ≡ true
-  held_if t h e =
-      not-false (holds s t)
-      (sym (ap (λ (b : Bool). b && not (holds s t)) (lt-ltb t (capacity s.conf) h)) ∙ sym (complement_holds t) ∙ e)
+  held_if t h e = grind (arith, nat_tests, complement_holds t)
 
   -- nothing is held at the capacity
   pub none_at_end : holds s (capacity s.conf) ≡ false
-  none_at_end = and_left (ltb (capacity s.conf) (capacity s.conf)) (bit_at s (capacity s.conf)) (le-ltb (capacity s.conf) (capacity s.conf) (omega arith))
+  none_at_end = grind (arith, nat_tests)
 
   module _ (p from : ℕ) (least : Least (holds s) p (Some from)) where
     -- the run ends at a gap
     pub run_to_gap : (gap : ℕ) → Least (holds (complement s)) from (Some gap) → First (holds s) p (record { from = from; to = gap })
     run_to_gap gap h =
-        let parts = and_parts (ltb gap (capacity s.conf)) (not (holds s gap)) (sym (complement_holds gap) ∙ h.1) in
-        let end : gap < capacity s.conf = ltb-true gap (capacity s.conf) parts.0 in
-        let off : holds s gap ≡ false = not-true (holds s gap) parts.1 in
+        let end : gap < capacity s.conf = grind (arith, nat_tests, complement_holds gap, h.1) in
+        let off : holds s gap ≡ false = grind (arith, nat_tests, complement_holds gap, h.1) in
         record {
           above = least.0;
-          some = ⊎_elim (λ e. absurd (both_ways (holds s gap) off (ap (holds s) (sym e) ∙ least.1))) (λ ne. omega (arith, ne, h.0)) (cases_eq from gap);
+          some = ⊎_elim (λ e. let on = ap (holds s) e in absurd cc) (λ ne. omega (arith, ne, h.0)) (cases_eq from gap);
           before = least.2;
           passes = λ t l u. held_if t (omega arith) (h.2 t l u);
           ends = off;
@@ -66,11 +64,9 @@ module _ (s : Source) (law : Lawful s) where
   -- a run ends within the capacity
   pub run_within : (p : ℕ) (r : Run) → First (holds s) p r → r.to ≤ capacity s.conf
   run_within p r h =
-      ⊎_elim (λ l. absurd (both_ways (holds s (capacity s.conf)) none_at_end (h.passes (capacity s.conf) (below_from l) l)))
-      (λ l. l) (cases_lt (capacity s.conf) r.to)
-    where
-      below_from : capacity s.conf < r.to → r.from ≤ capacity s.conf
-      below_from l = omega (arith, held_below s law r.from (h.passes r.from (omega arith) h.some))
+      let some = h.some in
+      let last = held_below s law (r.to - 1) (h.passes (r.to - 1) (omega arith) (omega arith)) in
+      omega arith
 
   -- which is small
   pub run_small : (p : ℕ) (r : Run) → First (holds s) p r → r.to ≤ 2 ^ 24

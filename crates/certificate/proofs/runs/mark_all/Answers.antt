@@ -3,7 +3,7 @@ use Rattle.std.proofs.lemmas.Bool.{le-leb}
 use Rattle.bit_block.specs.Widths.{capacity}
 use Rattle.draft.specs.Drafts.{fitting, good_range}
 use Rattle.certificate.specs.Runs.{First}
-use Rattle.certificate.proofs.Marks.{part_more, part_all, spanned, run_good, accepted}
+use Rattle.certificate.proofs.Marks.{part_more, part_all, run_good}
 use Rattle.certificate.proofs.runs.mark_all.Goals as goal
 use Rattle.certificate.proofs.runs.mark_all.Goals.{In-Some}
 use Rattle.bitset_interface.specs.Source.{holds}
@@ -20,19 +20,19 @@ good g c =
     (omega (arith, c.if-capacity_of.false, c.capacity_of.ensures, c.capacity_of-2.ensures))
 
 pub returns-in_err-mark : goal.returns-in_err-mark
-returns-in_err-mark g c = absurd (accepted _ c.in_err-mark.field-0.0 (good g (goal.at.returns-in_err-mark g c).In-Some) c.in_err-mark.ensures.refused)
+returns-in_err-mark g c = let refused = rw (good g (goal.at.returns-in_err-mark g c).In-Some) at c.in_err-mark.ensures.refused in absurd cc
 
 pub loop-run-preserved : goal.loop-run-preserved
 loop-run-preserved g c =
-    let r = c.in-Some.run' in
     let turn = (goal.at.loop-run-preserved g c).In-Some in (
       tt,
       tt,
       cc,
       c.mark.ensures.config ∙ c.loop-run.invariant.3,
       c.mark.ensures.lender ∙ c.loop-run.invariant.4,
-      rw c.in-Some.ensures.steps.reached (part_more (g.S.LevelMasks.means c.args.s.now) c.args.draft.now.words.now c.loop-run.run-iterator.at r c.loop-run.draft.words.now c.mark.new.self.words.now (first g turn) c.loop-run.invariant.5
-          (spanned (fitting c.loop-run.draft.config (length c.loop-run.draft.words.now)) r.from r.to c.loop-run.draft.words.now c.mark.new.self.words.now (good g turn) c.mark.ensures.sets)),
+      rw c.in-Some.ensures.steps.reached
+          (part_more (g.S.LevelMasks.means c.args.s.now) c.args.draft.now.words.now c.loop-run.run-iterator.at c.in-Some.run' c.loop-run.draft.words.now c.mark.new.self.words.now
+          (first g turn) c.loop-run.invariant.5 (rw (good g turn) at c.mark.ensures.sets)),
     )
 
 pub returns-clause-added : goal.returns-clause-added
