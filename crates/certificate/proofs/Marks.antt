@@ -1,13 +1,10 @@
 -- Marking a source's runs one after another.
-use Rattle.std.proofs.Common.{◌≡◌, ℕ, ◌<◌, ◌≤◌, Bool, true, false, cond, ◌&&◌, ◌||◌, ltb, List, length, None, Err, Option, ap, ◌∙◌, ap₂, arith}
+use Rattle.std.proofs.Common.{◌≡◌, ℕ, ◌<◌, ◌≤◌, Bool, true, false, cond, ◌&&◌, ◌||◌, ltb, List, length, None, ap, ◌∙◌, ap₂, arith}
 use Rattle.std.proofs.lemmas.Bool.Decides.{nat_tests}
 use Rattle.bit_block.specs.declared.config.Config.{Config}
 use Rattle.bit_block.specs.Widths.{capacity}
 use Rattle.bitset_interface.specs.Source.{Source, Lawful, holds}
-use Rattle.draft.specs.declared.DraftError.{DraftError}
-use Rattle.draft.specs.Drafts.{stored, fitting, within, Spanned, Sets, good_range}
-use Rattle.bitset_interface.specs.Refusals.{unless}
-use Rattle.draft.specs.Refusals.{refusal, bad_range}
+use Rattle.draft.specs.Drafts.{stored, fitting, within, Spanned, good_range}
 use Rattle.certificate.specs.Runs.{First, RunFrom, Adds}
 use Rattle.certificate.specs.declared.runs.Run.{Run}
 use Rattle.certificate.proofs.Maximal.{run_within}

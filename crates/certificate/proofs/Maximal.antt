@@ -1,26 +1,15 @@
 -- A run from the least held position to the least position after it that is not held.
-use Rattle.std.proofs.Common.{◌≡◌, ℕ, ◌-◌, ◌^◌, ◌<◌, ◌≤◌, Bool, true, false, not, ◌&&◌, ltb, Some, None, Option, sym, ap, ◌∙◌, ⊎_elim, arith}
-use Rattle.std.proofs.lemmas.Bool.{cases_lt, cases_eq, both_ways, lt-ltb, le-ltb, ltb-true, and_parts, and_left, not-true, not-false}
+use Rattle.std.proofs.Common.{◌≡◌, ℕ, ◌-◌, ◌^◌, ◌<◌, ◌≤◌, Bool, true, false, not, ◌&&◌, ltb, Some, None, ap, ◌∙◌, ⊎_elim, arith}
+use Rattle.std.proofs.lemmas.Bool.{cases_eq}
 use Rattle.std.proofs.lemmas.Bool.Decides.{nat_tests}
 use Rattle.bit_block.specs.Bit.{Least}
 use Rattle.bit_block.specs.Widths.{capacity}
-use Rattle.bitset_interface.specs.Source.{Source, Lawful, bit_at, holds}
+use Rattle.bitset_interface.specs.Source.{Source, Lawful, holds}
 use Rattle.bitset_interface.proofs.Caps.{bit_holds, held_below, capacity_most}
 use Rattle.bitset_interface.proofs.Positions.{spread-holds}
 use Rattle.certificate.specs.Complements.{complement}
-use Rattle.certificate.specs.Runs.{First, RunFrom}
+use Rattle.certificate.specs.Runs.{First}
 use Rattle.certificate.specs.declared.runs.Run.{Run}
-
--- tests that agree have the same runs
-pub run_same : (f g : ℕ → Bool) → ((t : ℕ) → f t ≡ g t) → (p : ℕ) (r : Option Run) → RunFrom f p r → RunFrom g p r
-run_same f g e p None h = λ t l. sym (e t) ∙ h t l
-run_same f g e p (Some r) h = record {
-  above = h.above;
-  some = h.some;
-  before = λ t l u. sym (e t) ∙ h.before t l u;
-  passes = λ t l u. sym (e t) ∙ h.passes t l u;
-  ends = sym (e r.to) ∙ h.ends;
-}
 
 module _ (s : Source) (law : Lawful s) where
   -- what a complement holds

@@ -19,13 +19,3 @@ module _ {S : Type 0} (means : S → Source) where
   pub runs_collected : {Z E : Type 0} (r : Result (Vec Run Z) E) (s : Runs S) → IsCollectResult (Walks means) s r → IfOk r (λ v. AllRuns (holds (means s.source)) s.at (vec_items v))
   runs_collected (Ok v) s (rs, (t, y, end), is) = rw is.0 (walked rs s t (end tt).0 y (end tt).1)
   runs_collected (Err e) s h = tt
-
-module _ (f g : ℕ → Bool) (same : (t : ℕ) → f t ≡ g t) where
-  -- tests that agree have the same runs
-  all_same : (p : ℕ) (rs : List Run) → AllRuns f p rs → AllRuns g p rs
-  all_same p [] h = run_same f g same p None h
-  all_same p (r ∷ rs) h = (run_same f g same p (Some r) h.0, all_same r.to rs h.1)
-
-  pub all_runs_same : {Z E : Type 0} (r : Result (Vec Run Z) E) → IfOk r (λ v. AllRuns f 0 (vec_items v)) → IfOk r (λ v. AllRuns g 0 (vec_items v))
-  all_runs_same (Ok v) h = all_same 0 (vec_items v) h
-  all_runs_same (Err e) h = tt
