@@ -1,12 +1,11 @@
 -- The runs that a walk gives are every run of its source.
-use Rattle.std.specs.Prelude.{◌≡◌, ℕ, Bool, List, [], ◌∷◌, Some, None, Option, Result, Ok, Err, IfOk, Vec, vec_items}
+use Rattle.std.specs.Prelude.{List, [], ◌∷◌, None, Result, Ok, Err, IfOk, Vec, vec_items}
 use Rattle.std.specs.Iterator.{Yields}
 use Rattle.std.proofs.lemmas.Iterator.{IsCollectResult}
 use Rattle.bitset_interface.specs.Source.{Source, holds}
 use Rattle.certificate.specs.declared.runs.Run.{Run}
 use Rattle.certificate.specs.declared.runs.Runs.{Runs}
-use Rattle.certificate.specs.Runs.{RunStep}
-use Rattle.certificate.proofs.Maximal.{run_same}
+use Rattle.certificate.specs.Runs.{Walks}
 use Rattle.stylebook.specs.Listed.{AllRuns}
 
 module _ {S : Type 0} (means : S → Source) where
