@@ -1,11 +1,11 @@
 -- A run from the least held position to the least position after it that is not held.
-use Rattle.std.proofs.Common.{◌≡◌, ℕ, ◌-◌, ◌^◌, ◌<◌, ◌≤◌, Bool, true, false, not, ◌&&◌, ltb, Some, None, ap, ◌∙◌, ⊎_elim, arith}
+use Rattle.std.proofs.Common.{◌≡◌, ℕ, ◌-◌, ◌<◌, ◌≤◌, Bool, true, false, not, ◌&&◌, ltb, Some, None, Option, MatchOption, ap, ◌∙◌, ⊎_elim, arith}
 use Rattle.std.proofs.lemmas.Bool.{cases_eq}
 use Rattle.std.proofs.lemmas.Bool.Decides.{nat_tests}
 use Rattle.bit_block.specs.Bit.{Least}
 use Rattle.bit_block.specs.Widths.{capacity}
 use Rattle.bitset_interface.specs.Source.{Source, Lawful, holds}
-use Rattle.bitset_interface.proofs.Caps.{bit_holds, held_below, capacity_most}
+use Rattle.bitset_interface.proofs.Caps.{bit_holds, held_below}
 use Rattle.bitset_interface.proofs.Positions.{spread-holds}
 use Rattle.certificate.specs.Complements.{complement}
 use Rattle.certificate.specs.Runs.{First}
@@ -27,28 +27,26 @@ module _ (s : Source) (law : Lawful s) where
   none_at_end = grind (arith, nat_tests)
 
   module _ (p from : ℕ) (least : Least (holds s) p (Some from)) where
-    -- the run ends at a gap
-    pub run_to_gap : (gap : ℕ) → Least (holds (complement s)) from (Some gap) → First (holds s) p (record { from = from; to = gap })
-    run_to_gap gap h =
-        let end : gap < capacity s.conf = grind (arith, nat_tests, complement_holds gap, h.1) in
-        let off : holds s gap ≡ false = grind (arith, nat_tests, complement_holds gap, h.1) in
-        record {
-          above = least.0;
-          some = ⊎_elim (λ e. let on = ap (holds s) e in absurd cc) (λ ne. omega (arith, ne, h.0)) (cases_eq from gap);
-          before = least.2;
-          passes = λ t l u. held_if t (omega arith) (h.2 t l u);
-          ends = off;
-        }
-
-    -- or at the capacity
-    pub run_to_end : (to : ℕ) → to ≡ capacity s.conf → Least (holds (complement s)) from None → First (holds s) p (record { from = from; to = to })
-    run_to_end to e h = record {
+    -- the run ends at the next gap, or at the capacity
+    pub run_ends : (gap : Option ℕ) (to : ℕ) → Least (holds (complement s)) from gap → MatchOption gap (to ≡ capacity s.conf) (λ g. to ≡ g)
+        → First (holds s) p (record { from = from; to = to })
+    run_ends None to h e = record {
       above = least.0;
       some = omega (arith, e, held_below s law from least.1);
       before = least.2;
       passes = λ t l u. held_if t (omega arith) (h t l);
       ends = ap (holds s) e ∙ none_at_end;
     }
+    run_ends (Some gap) to h e =
+        let end : gap < capacity s.conf = grind (arith, nat_tests, complement_holds gap, h.1) in
+        let off : holds s to ≡ false = grind (arith, nat_tests, complement_holds gap, h.1, e) in
+        record {
+          above = least.0;
+          some = ⊎_elim (λ same. let on = ap (holds s) same in absurd cc) (λ ne. omega (arith, ne, h.0, e)) (cases_eq from to);
+          before = least.2;
+          passes = λ t l u. held_if t (omega (arith, e)) (h.2 t l (omega (arith, e)));
+          ends = off;
+        }
 
   -- a run ends within the capacity
   pub run_within : (p : ℕ) (r : Run) → First (holds s) p r → r.to ≤ capacity s.conf
@@ -56,7 +54,3 @@ module _ (s : Source) (law : Lawful s) where
       let some = h.some in
       let last = held_below s law (r.to - 1) (h.passes (r.to - 1) (omega arith) (omega arith)) in
       omega arith
-
-  -- which is small
-  pub run_small : (p : ℕ) (r : Run) → First (holds s) p r → r.to ≤ 2 ^ 24
-  run_small p r h = omega (arith, run_within p r h, capacity_most s.conf)

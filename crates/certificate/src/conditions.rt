@@ -9,7 +9,8 @@ use bit_block::config::common;
 use bitset_interface::LevelMasks;
 use ops::{OneOf, Without};
 
-#[derive(Clone, Copy)]
+// What is asked of two sources.
+#[derive(Clone, Copy, PartialEq, Eq, Debug)]
 pub enum Condition {
     // no position of the first lies outside the second
     Inside,

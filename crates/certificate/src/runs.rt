@@ -26,10 +26,7 @@ pub fn next_run<S: LevelMasks>(s: &S, p: usize) -> Option<Run>
     ensures { RunFrom (holds (S.LevelMasks.means s.now)) p result }
 {
     let from = next_from(s, p)?;
-    let to = match next_from(&Complement(s), from) {
-        Some(gap) => gap,
-        None => capacity_of(s),
-    };
+    let to = next_from(&Complement(s), from).unwrap_or_else(|| capacity_of(s));
     Some(Run { from, to })
 }
 

@@ -1,6 +1,6 @@
 -- A layer over two lawful sources is lawful.
 use Rattle.std.specs.Prelude.{◌≡◌, ℕ, ◌<◌, Bool, true, false, not, ◌&&◌, ◌||◌, Option}
-use Rattle.std.proofs.Common.{sym, subst, inl, inr, ⊎_elim}
+use Rattle.std.proofs.Common.{inl, inr, ⊎_elim}
 use Rattle.std.proofs.lemmas.Bool.{and_parts, and_from}
 use Rattle.bit_block.specs.Bit.{exclusive}
 use Rattle.bit_block.specs.declared.config.Config.{Config}
@@ -16,8 +16,8 @@ bounded : (x y : Option Config) (w : Option Config → ℕ) (n : ℕ) (f : Bool 
 bounded x y w n f r p q hp hq e =
     let l = and_parts (live x y) (f p q) e in
     ⊎_elim
-    (λ t. subst (λ (o : Option Config). n < w o) (sym (shared-left x y l.0)) (hp t))
-    (λ t. subst (λ (o : Option Config). n < w o) (sym (shared_right x y l.0)) (hq t))
+    (λ t. rw (shared-left x y l.0) (hp t))
+    (λ t. rw (shared_right x y l.0) (hq t))
     (r p q l.1)
 
 -- a raised bit of a layer has raised the bit above it
@@ -47,6 +47,7 @@ module _ (f g : Bool → Bool → Bool) (keeps : Bool) (laws : OperationLaws f g
       let t = and_parts a.trust b.trust k.1 in
       (k.0, t.0, t.1)
 
+  -- the layer of a lawful operation
   pub applied_lawful : Lawful (applied f g keeps a b)
   applied_lawful = record {
     below0 = λ i. bounded a.conf b.conf w0 i f laws.upper_raises (a.up0 i) (b.up0 i) (la.below0 i) (lb.below0 i);
@@ -62,6 +63,7 @@ module _ (f g : Bool → Bool → Bool) (keeps : Bool) (laws : OperationLaws f g
         over on f g laws.upper_raises (laws.bits_covers t.0) (a.up1 i j) (b.up1 i j) (a.up2 i j) (b.up2 i j) (la.full1 i j t.1) (lb.full1 i j t.2);
   }
 
+-- the four layers
 pub both_lawful : (a b : Source) → Lawful a → Lawful b → Lawful (both a b)
 both_lawful = applied_lawful (λ p q. p && q) (λ p q. p && q) false and_laws
 

@@ -18,14 +18,18 @@ layer f0 f1 f2 trusted a b = record {
 abbrev pub applied : (Bool → Bool → Bool) → (Bool → Bool → Bool) → Bool → Source → Source → Source
 applied upper bits keeps a b = layer upper upper bits (keeps && (a.trust && b.trust)) a b
 
+-- what both hold
 abbrev pub both : Source → Source → Source
 both a b = layer (λ p q. p && q) (λ p q. p && q) (λ p q. p && q) false a b
 
+-- what at least one holds; trusted where both are
 abbrev pub either : Source → Source → Source
 either a b = layer (λ p q. p || q) (λ p q. p || q) (λ p q. p || q) (a.trust && b.trust) a b
 
+-- what the first holds alone
 abbrev pub without : Source → Source → Source
 without a b = layer (λ p q. p) (λ p q. p) (λ p q. p && not q) false a b
 
+-- what just one holds
 abbrev pub one_of : Source → Source → Source
 one_of a b = layer (λ p q. p || q) (λ p q. p || q) exclusive false a b

@@ -11,6 +11,7 @@ use Rattle.bit_block.specs.Widths.{bits, same, shared, live}
 abbrev width : ℕ → Width
 width n = cond (n == 64) W64 (cond (n == 128) W128 W256)
 
+-- it is the width itself
 width-bits : (a : Width) → width (bits a) ≡ a
 width-bits W64 = refl
 width-bits W128 = refl
@@ -36,11 +37,13 @@ taken : (b : Bool) (c : Config) → is_some (cond b (Some c) None) ≡ true → 
 taken true c e = refl
 taken false c e = absurd (false≢true e)
 
+-- what is shared is the first's
 pub shared-left : (x y : Option Config) → live x y ≡ true → shared x y ≡ x
 shared-left None y e = absurd (false≢true e)
 shared-left (Some c) None e = absurd (false≢true e)
 shared-left (Some c) (Some d) e = cond-true (same c d) (Some c) None (taken (same c d) c e)
 
+-- and the second's
 pub shared_right : (x y : Option Config) → live x y ≡ true → shared x y ≡ y
 shared_right None y e = absurd (false≢true e)
 shared_right (Some c) None e = absurd (false≢true e)

@@ -33,6 +33,7 @@ pub type OneOf<A, B> = Apply<Xor, A, B>;
 pub struct Apply<Op, A, B>(pub A, pub B, PhantomData<Op>);
 
 impl<Op: BitSetOp, A: LevelMasks, B: LevelMasks> Apply<Op, A, B> {
+    // The layer over two sources.
     pub fn new(a: A, b: B) -> Apply<Op, A, B>
         ensures first { result.0 ≡ a }
         ensures second { result.1 ≡ b }

@@ -18,9 +18,11 @@ pub trait BitSetOp {
     // Whether a layer over two trusted sources is trusted.
     const TRUSTED_HIERARCHY: bool;
 
+    // The operation on masks of level 0 or 1.
     fn hierarchy_op(left: Mask, right: Mask) -> Mask
         ensures { (t : ℕ) → raised result t ≡ hierarchy_bit (raised left t) (raised right t) };
 
+    // The operation on data blocks.
     fn data_op(left: Mask, right: Mask) -> Mask
         ensures { (t : ℕ) → raised result t ≡ data_bit (raised left t) (raised right t) };
 
