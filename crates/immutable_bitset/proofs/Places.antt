@@ -37,19 +37,19 @@ module _ (m : Numbers) (ws : List ℕ) (s : Sound m ws) (i : ℕ) (up : raised m
     here = omega (arith, at, place_lt m ws s.rows s.counts i low up j hj)
 
     module _ (fits : (t : ℕ) → get_or ws t 0 < 2 ^ 64) (bit : bit_of (get_or ws (x * k + j / 64) 0) (j % 64) ≡ true)
-        (a b d l : ℕ) (ea : a ≡ before (take (len_of m) ws) (x * k + j / 64)) (eb : b ≡ count (bit_of (get_or ws (x * k + j / 64) 0)) (j % 64)) (ed : d ≡ kdof m) (el : l ≡ len_of m) where
+        (a b d l : ℕ) (ea : a ≡ before (take (len_of m) ws) (x * k + j / 64)) (eb : b ≡ count (bit_of (get_or ws (x * k + j / 64) 0)) (j % 64)) (ed : d ≡ kdof m) (el : l ≡ len_of m + quarter (len_of m)) where
       bit' : bit_of (get_or ws (word_place m i j) 0) (j % 64) ≡ true
       bit' = ap (λ (p : ℕ). bit_of (get_or ws p 0) (j % 64)) (sym at) ∙ bit
 
       is_rank : a + b ≡ rank m ws i j
       is_rank = ap₂ ◌+◌ (ea ∙ ap (before (take (len_of m) ws)) at) (eb ∙ ap (λ (p : ℕ). count (bit_of (get_or ws p 0)) (j % 64)) at)
 
-      pub place : l + (l + 3) / 4 + (a + b) * d ≡ block_place m ws i j
+      pub place : l + (a + b) * d ≡ block_place m ws i j
       unfolding block_place
-      place = ap (λ (n : ℕ). n + (n + 3) / 4 + (a + b) * d) el ∙ ap₂ (λ (r n : ℕ). len_of m + quarter (len_of m) + r * n) is_rank ed
+      place = ap (λ (n : ℕ). n + (a + b) * d) el ∙ ap₂ (λ (r n : ℕ). len_of m + quarter (len_of m) + r * n) is_rank ed
 
-      pub place_fits : l + (l + 3) / 4 + (a + b) * d + kdof m ≤ length ws
+      pub place_fits : l + (a + b) * d + kdof m ≤ length ws
       place_fits = omega (arith, place, block_fits m ws s.rows s.counts i low up j hj fits bit')
 
-      pub answer : Some (l + (l + 3) / 4 + (a + b) * d) ≡ cond (held_at m ws i j) (Some (block_place m ws i j)) None
+      pub answer : Some (l + (a + b) * d) ≡ cond (held_at m ws i j) (Some (block_place m ws i j)) None
       answer = ap Some place ∙ sym (cond-true (held_at m ws i j) (Some (block_place m ws i j)) None (held_is m ws s.rows s.counts i low up j hj fits bit'))
