@@ -137,9 +137,7 @@ impl Blank<'_> {
         ensures lender { self.new.words.ghost_name ≡ self.old.words.ghost_name }
     {
         self.numbers = None;
-        let Some(config) = source.config() else {
-            return Err(FillError::Void);
-        };
+        let config = source.config().ok_or(FillError::Void)?;
         let found = measure(source);
         let all = words_needed(config, found.n, found.d);
         if all > self.words.len() {

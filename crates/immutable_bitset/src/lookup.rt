@@ -2,8 +2,9 @@
 ghost use Rattle.std.specs.Prelude.{◌≡◌, ℕ, ◌^◌, ◌<◌, true, take, slice_index, if◌then◌else◌, Some, None};
 ghost use Rattle.bit_block.specs.Raised.{raised};
 ghost use Rattle.bit_block.specs.Ranges.{count};
+ghost use Rattle.bit_block.specs.Widths.{bits};
 ghost use Rattle.packing.specs.Packed.{before};
-ghost use Rattle.packing.specs.Meaning.{Sound, len_of, held_at, block_place, up_at};
+ghost use Rattle.packing.specs.Meaning.{Sound, len_of, word_place, held_at, block_place, up_at};
 
 use bit_block::mask::{Mask, low_ones};
 use packing::Numbers;
@@ -37,6 +38,16 @@ impl<'a> Filled<'a> {
         numbers.starts[i / 64] as usize + low_ones(numbers.level0.words[i / 64], i % 64)
     }
 
+    // The place of the level-1 word that has bit j of row i.
+    fn word_place(&self, i: usize, j: usize) -> usize
+        requires row { raised self.now.numbers.now.level0 i ≡ true }
+        requires wide { j < bits self.now.numbers.now.config.level1 }
+        ensures is { result ≡ word_place self.now.numbers.now i j }
+        ensures within { result < len_of self.now.numbers.now }
+    {
+        self.row_rank(i) * self.numbers.level1_words() + j / 64
+    }
+
     // The start of level-1 word m.
     fn start_at(&self, m: usize) -> usize
         requires { m < len_of self.now.numbers.now }
@@ -58,7 +69,7 @@ impl<'a> Filled<'a> {
         if j >= numbers.config.level1.bits() {
             return None;
         }
-        let m = self.row_rank(i) * numbers.level1_words() + j / 64;
+        let m = self.word_place(i, j);
         let word = self.words[m];
         if (word >> (j % 64)) & 1 != 1 {
             return None;
@@ -74,7 +85,7 @@ impl<'a> Filled<'a> {
         if !self.numbers.level0.get_bit(i) {
             return Mask::zero();
         }
-        let at = self.row_rank(i) * self.numbers.level1_words();
+        let at = self.word_place(i, 0);
         Mask::from_words(self.words, at, self.numbers.config.level1)
     }
 
