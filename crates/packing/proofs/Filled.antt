@@ -1,13 +1,15 @@
 -- From a source's numbers and words to what they mean.
-use Rattle.std.proofs.Common.{◌≡◌, ℕ, ◌*◌, ◌/◌, ◌<◌, ◌≤◌, Bool, true, ◌&&◌, ltb, List, length, take, Option, sym, ap, ◌∙◌, subst, ap₂, arith}
+use Rattle.std.proofs.Common.{◌≡◌, ℕ, ◌*◌, ◌/◌, ◌<◌, ◌≤◌, Bool, true, ◌&&◌, ltb, List, length, take, Some, Option, sym, ap, ◌∙◌, subst, ap₂, arith}
 use mathlib.Core.Path.{fun_ext}
 use Rattle.std.proofs.lemmas.Bool.{ltb-true}
 use Rattle.bit_block.specs.Raised.{raised}
 use Rattle.bit_block.specs.Ranges.{count}
 use Rattle.bit_block.specs.declared.config.Config.{Config}
-use Rattle.bit_block.specs.Widths.{w0, w1, wd, capacity, index0, index1, index_d}
+use Rattle.bit_block.specs.Widths.{bits, w0, w1, wd, capacity, index0, index1, index_d}
 use Rattle.bitset_interface.specs.Source.{Source, Lawful, holds}
+use Rattle.packing.specs.declared.Found.{Found}
 use Rattle.packing.specs.declared.Numbers.{Numbers}
+use Rattle.packing.specs.Measures.{Measured, NumbersFound}
 use Rattle.packing.specs.Starts0.{start0}
 use Rattle.packing.specs.Packed.{held, blocks, full, packed, needed}
 use Rattle.packing.specs.Fills.{k1, kd, all_words}
@@ -15,6 +17,7 @@ use Rattle.packing.specs.Meaning.{k1of, kdof, k1-whole, kd-whole, held_at, up_at
 use Rattle.packing.specs.Packs.{NumbersOf, WordsOf, PackedAs}
 use Rattle.packing.specs.Views.{viewed}
 use Rattle.packing.proofs.Held.{full_under}
+use Rattle.packing.proofs.Numbering.{k1_of, kd_of, needed_is, numbers_of}
 use Rattle.packing.proofs.Unpack.{rows_are, counts_are, starts_are, held_same, up_same}
 
 module _ (s : Source) (law : Lawful s) (m : Numbers) (N : NumbersOf s m) (old new : List ℕ) (W : WordsOf s old new) (fits : all_words s ≤ length old) where
@@ -22,12 +25,10 @@ module _ (s : Source) (law : Lawful s) (m : Numbers) (N : NumbersOf s m) (old ne
   top = fun_ext N.top
 
   e1 : k1of m ≡ k1 s
-  unfolding k1of
-  e1 = ap (λ (o : Option Config). w1 o / 64) N.conf
+  e1 = k1_of s m N
 
   ed : kdof m ≡ kd s
-  unfolding kdof
-  ed = ap (λ (o : Option Config). wd o / 64) N.conf
+  ed = kd_of s m N
 
   e_n : needed (k1of m) (kdof m) m.n m.d ≡ all_words s
   e_n = ap₂ (λ (i j : ℕ). needed i j m.n m.d) e1 ed ∙ ap₂ (λ (n d : ℕ). needed (k1 s) (kd s) n d) N.rows_are N.blocks_are
@@ -90,3 +91,8 @@ module _ (s : Source) (law : Lawful s) (m : Numbers) (N : NumbersOf s m) (old ne
     means = λ i j t. ap (λ (g : ℕ → Bool). g t) (same_up i j);
     positions = same_positions;
   }
+
+-- the numbers of what was found in s, and words filled with s
+pub packed_found : (s : Source) → Lawful s → (c : Config) → Some c ≡ s.conf → (f : Found) → Measured (held s) f → (m : Numbers) → NumbersFound f c m
+    → {old new : List ℕ} → WordsOf s old new → needed (bits c.level1 / 64) (bits c.«data» / 64) f.n f.d ≤ length old → PackedAs s m old new
+packed_found s law c is f M m e {old} {new} W fits = packed_as s law m (numbers_of s c is f M m e) old new W (omega (arith, needed_is s c is f M, fits))

@@ -1,8 +1,9 @@
 -- Three parts written one after another are the packed source.
-use Rattle.std.proofs.Common.{◌≡◌, ℕ, ◌+◌, ◌*◌, ◌≤◌, Bool, List, length, take, drop, sym, refl, ap, ◌∙◌, ap₂, arith}
+use Rattle.std.proofs.Common.{◌≡◌, ℕ, ◌+◌, ◌*◌, ◌≤◌, Bool, List, length, take, drop, sym, refl, ap, ◌∙◌, subst, ap₂, arith}
+use mathlib.Core.Path.{fun_ext}
 use Rattle.std.proofs.lemmas.Nat.{mul-le}
 use Rattle.bitset_interface.specs.Source.{Source}
-use Rattle.packing.specs.Packed.{held, full, row_count, block_count, level1, start_words, quarter, data_words, packed, needed, four}
+use Rattle.packing.specs.Packed.{held, full, row_count, block_count, chosen, level1, start_words, quarter, data_words, packed, needed, four}
 use Rattle.packing.specs.Fills.{k1, kd, all_words}
 use Rattle.packing.specs.Packs.{WordsOf}
 use Rattle.packing.specs.Wrote.{Wrote}
@@ -15,6 +16,11 @@ rows_most h = count_le (full h) 256
 
 pub length_starts : (xs : List ℕ) → length (start_words xs) ≡ quarter (length xs)
 length_starts xs = length_singles (λ q. four xs (4 * q)) (quarter (length xs))
+
+-- the masks that were found, for the rows that were found, are the level-1 words
+pub level1_of : (s : Source) (k : ℕ) (which : ℕ → Bool) → ((i : ℕ) → which i ≡ full (held s) i) → {x y : List ℕ} {a : ℕ} → Wrote x y 0 (chosen k which (held s) 256) a
+    → Wrote x y 0 (level1 k (held s)) a
+level1_of s k which top {x} {y} {a} w = subst (λ (f : ℕ → Bool). Wrote x y 0 (chosen k f (held s) 256) a) (fun_ext top) w
 
 module _ (s : Source) (p q : ℕ) {x y : List ℕ} {a : ℕ} (one : Wrote x y 0 (level1 p (held s)) a) where
   pub after_one : a ≡ row_count (held s) * p

@@ -4,7 +4,6 @@ pub mod Gathers
 pub mod Ones
 pub mod Held
 pub mod Walks
-pub mod LevelStarts
 pub mod Measuring
 pub mod Lengths
 pub mod Starts
@@ -14,6 +13,6 @@ pub mod Lookups
 pub mod Laying
 pub mod Filling
 pub mod Unpack
+pub mod Numbering
 pub mod Filled
 pub mod Alikes
-pub mod Numbering

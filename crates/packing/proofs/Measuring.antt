@@ -1,5 +1,5 @@
 -- The walk over a source, row by row.
-use Rattle.std.proofs.Common.{◌≡◌, ℕ, ◌+◌, ◌<◌, ◌≤◌, Bool, false, ◌&&◌, ◌||◌, eqb, ltb, List, length, get_or, set, replicate, Some, None, sym, ap, ◌∙◌, ⊎_elim, arith, length-set, get_or-set_other, get_or-set_same}
+use Rattle.std.proofs.Common.{◌≡◌, ℕ, ◌+◌, ◌<◌, ◌≤◌, Bool, false, ◌&&◌, ltb, List, length, get_or, set, replicate, Some, None, sym, ap, ◌∙◌, ⊎_elim, arith, length-set, get_or-set_other, get_or-set_same}
 use Rattle.std.proofs.lemmas.List.{length-replicate, get_or-replicate}
 use Rattle.std.proofs.lemmas.Bool.{cases_eq, lt-ltb, le-ltb, and_left}
 use Rattle.bit_block.specs.Bit.{Least}
@@ -12,7 +12,7 @@ use Rattle.packing.specs.Packed.{held, blocks, full}
 use Rattle.packing.specs.Measures.{Measured}
 use Rattle.packing.proofs.Ranges.{total_more, total_skip, total_le}
 use Rattle.packing.proofs.Held.{blocks_le, w0_most}
-use Rattle.packing.proofs.Walks.{UpTo, upto_more, upto_all, moved, ended, row_off, blocks_off, full_off}
+use Rattle.packing.proofs.Walks.{UpTo, upto_all, moved, ended, row_off, blocks_off, full_off}
 
 -- the rows below i are found: which hold something, their blocks, and how many blocks
 pub record Rowed (s : Source) (i : ℕ) (level0 : Mask) (rows : List Mask) (d : ℕ) : Type 0 where
@@ -35,7 +35,7 @@ module _ (s : Source) (law : Lawful s) (m : ℕ → Bool) (is : (t : ℕ) → m 
   off0 : (t : ℕ) → m t ≡ false → s.up0 t ≡ false
   off0 t e = sym (is t) ∙ e
 
-  under : (t : ℕ) → m t ≡ false → full (held s) t ≡ false
+  pub under : (t : ℕ) → m t ≡ false → full (held s) t ≡ false
   under t e = full_off s law t (off0 t e)
 
   under_row : (u t : ℕ) → m t ≡ false → held s t u ≡ false
@@ -51,11 +51,11 @@ module _ (s : Source) (law : Lawful s) (m : ℕ → Bool) (is : (t : ℕ) → m 
       found_small = omega (arith, law.below0 found (sym (is found) ∙ l.1), w0_most s.conf)
 
       -- one row more
-      pub rowed_more : (new row : Mask) (on : Bool) (k : ℕ) → on ≡ full (held s) found → ((t : ℕ) → raised row t ≡ held s found t) → k ≡ count (raised row) 256
-          → ((t : ℕ) → raised new t ≡ ((eqb t found && (ltb found 256 && on)) || raised level0 t)) → Rowed s (found + 1) new (set rows found row) (d + k)
+      pub rowed_more : (new row : Mask) (k : ℕ) → ((t : ℕ) → raised row t ≡ held s found t) → k ≡ count (raised row) 256
+          → UpTo (full (held s)) (found + 1) (raised new) → Rowed s (found + 1) new (set rows found row) (d + k)
       unfolding blocks
-      rowed_more new row on k ison isrow isk raises = record {
-        top = upto_more m (full (held s)) under i found (raised level0) (raised new) on found_small l ison r.top raises;
+      rowed_more new row k isrow isk top = record {
+        top = top;
         row = λ t x h u. ⊎_elim
             (λ e.
             ap (λ (y : ℕ). raised (get_or (set rows found row) y x) u) e

@@ -1,5 +1,5 @@
 -- Walks along the raised bits of a mask.
-use Rattle.std.proofs.Common.{◌≡◌, ℕ, ◌+◌, ◌<◌, ◌≤◌, Bool, true, false, not, ◌&&◌, ◌||◌, eqb, ltb, Some, None, sym, refl, ap, ◌∙◌, ⊎_elim, arith}
+use Rattle.std.proofs.Common.{◌≡◌, ℕ, ◌+◌, ◌<◌, ◌≤◌, Bool, true, false, ◌&&◌, ◌||◌, eqb, ltb, Some, None, sym, ap, ◌∙◌, ap₂, ⊎_elim, arith}
 use Rattle.std.proofs.lemmas.Bool.{cases_lt, cases_eq, cases_Bool, both_ways, lt-ltb, le-ltb, eq-eqb, ne_eqb, and_left, and_right}
 use Rattle.bit_block.specs.Bit.{Least}
 use Rattle.bitset_interface.specs.Source.{Source, Lawful}
@@ -13,14 +13,10 @@ use Rattle.packing.proofs.Held.{held_no, held_under, held_yes, held_past}
 abbrev pub UpTo : (ℕ → Bool) → ℕ → (ℕ → Bool) → Type 0
 UpTo h at got = (t : ℕ) → got t ≡ (ltb t at && h t)
 
-or_off : (b : Bool) → (b || false) ≡ b
-or_off true = refl
-or_off false = refl
+pub upto_none : (h got : ℕ → Bool) → ((t : ℕ) → got t ≡ false) → UpTo h 0 got
+upto_none h got e t = e t ∙ sym (and_left (ltb t 0) (h t) (le-ltb t 0 (omega arith)))
 
 module _ (m h : ℕ → Bool) (under : (t : ℕ) → m t ≡ false → h t ≡ false) where
-  pub upto_none : (got : ℕ → Bool) → ((t : ℕ) → got t ≡ false) → UpTo h 0 got
-  upto_none got e t = e t ∙ sym (and_left (ltb t 0) (h t) (le-ltb t 0 (omega arith)))
-
   -- between the bits that were found nothing passes
   pub gap : (at found : ℕ) → Least m at (Some found) → (t : ℕ) → at ≤ t → t < found → h t ≡ false
   gap at found l t a b = under t (l.2 t a b)
@@ -44,17 +40,24 @@ module _ (m h : ℕ → Bool) (under : (t : ℕ) → m t ≡ false → h t ≡ f
       (λ b. and_left (ltb t at) (h t) (le-ltb t at (omega (arith, l.0))) ∙ sym (and_left (ltb t (found + 1)) (h t) (le-ltb t (found + 1) (omega (arith, ne)))))
       (cases_lt t found)
 
-  -- the bit that was found is raised where it passes
-  pub upto_more : (at found : ℕ) (got new : ℕ → Bool) (on : Bool) → found < 256 → Least m at (Some found) → on ≡ h found → UpTo h at got
-      → ((t : ℕ) → new t ≡ ((eqb t found && (ltb found 256 && on)) || got t)) → UpTo h (found + 1) new
-  upto_more at found got new on small l is u raises t =
-      let r : new t ≡ ((eqb t found && on) || got t) = raises t ∙ ap (λ (x : Bool). (eqb t found && (x && on)) || got t) (lt-ltb found 256 small) in
+  -- the bit that was found passes, and is raised
+  pub upto_raised : (at found : ℕ) (got new : ℕ → Bool) → found < 256 → Least m at (Some found) → h found ≡ true → UpTo h at got
+      → ((t : ℕ) → new t ≡ ((eqb t found && ltb found 256) || got t)) → UpTo h (found + 1) new
+  upto_raised at found got new small l on u raises t =
+      let r : new t ≡ ((eqb t found && true) || got t) = raises t ∙ ap (λ (x : Bool). (eqb t found && x) || got t) (lt-ltb found 256 small) in
       ⊎_elim
       (λ e.
-      r ∙ ap (λ (x : Bool). (x && on) || got t) (eq-eqb t found e)
-      ∙ ap (λ (x : Bool). on || x) (u t ∙ and_left (ltb t at) (h t) (le-ltb t at (omega (arith, l.0)))) ∙ or_off on
-      ∙ is ∙ ap h (sym e) ∙ sym (ap (λ (x : Bool). x && h t) (lt-ltb t (found + 1) (omega arith))))
-      (λ ne. r ∙ ap (λ (x : Bool). (x && on) || got t) (ne_eqb t found ne) ∙ u t ∙ moved at found l t ne)
+      r ∙ ap (λ (x : Bool). (x && true) || got t) (eq-eqb t found e)
+      ∙ sym (ap₂ (λ (x y : Bool). x && y) (lt-ltb t (found + 1) (omega arith)) (ap h e ∙ on)))
+      (λ ne. r ∙ ap (λ (x : Bool). (x && true) || got t) (ne_eqb t found ne) ∙ u t ∙ moved at found l t ne)
+      (cases_eq t found)
+
+  -- the bit that was found does not pass
+  pub upto_passed : (at found : ℕ) (got : ℕ → Bool) → Least m at (Some found) → h found ≡ false → UpTo h at got → UpTo h (found + 1) got
+  upto_passed at found got l empty u t =
+      ⊎_elim
+      (λ e. u t ∙ and_right (ltb t at) (h t) (ap h e ∙ empty) ∙ sym (and_right (ltb t (found + 1)) (h t) (ap h e ∙ empty)))
+      (λ ne. u t ∙ moved at found l t ne)
       (cases_eq t found)
 
   -- past the last bit it makes no difference how far the walk went
@@ -76,22 +79,24 @@ trusted_held s law t i j =
     (λ no. no ∙ sym (held_under s law i j no))
     (cases_Bool (s.up1 i j))
 
--- whether a block's mask is zero says whether it holds something
-pub tested : (s : Source) → Lawful s → (i j : ℕ) (f : ℕ → Bool) → ((t : ℕ) → f t ≡ s.up2 i j t) → (z : Bool)
-    → (z ≡ true → (t : ℕ) → f t ≡ false) → (z ≡ false → (t : ℕ) × (f t ≡ true)) → not z ≡ held s i j
-tested s law i j f is true none some = sym (held_no s i j (λ t. sym (is t) ∙ none refl t))
-tested s law i j f is false none some = let w = some refl in sym (held_yes s law i j w.0 (sym (is w.0) ∙ w.1))
+-- a mask that raises what a source's block or row holds, and some bit of it: it holds something
+pub held_some : (s : Source) → Lawful s → (i j : ℕ) (f : ℕ → Bool) → ((t : ℕ) → f t ≡ s.up2 i j t) → (t : ℕ) × (f t ≡ true) → held s i j ≡ true
+held_some s law i j f is w = held_yes s law i j w.0 (sym (is w.0) ∙ w.1)
 
--- whether a row's mask is zero says whether the row holds a block
-pub tested_row_lem : (s : Source) → Lawful s → (i : ℕ) (f : ℕ → Bool) → ((t : ℕ) → f t ≡ held s i t) → (z : Bool)
-    → (z ≡ true → (t : ℕ) → f t ≡ false) → (z ≡ false → (t : ℕ) × (f t ≡ true)) → not z ≡ full (held s) i
+pub full_some : (s : Source) → Lawful s → (i : ℕ) (f : ℕ → Bool) → ((t : ℕ) → f t ≡ held s i t) → (t : ℕ) × (f t ≡ true) → full (held s) i ≡ true
 unfolding blocks
-tested_row_lem s law i f is true none some = sym (ap (ltb 0) (never_count (held s i) 256 (λ t. sym (is t) ∙ none refl t)))
-tested_row_lem s law i f is false none some =
-    let w = some refl in
+full_some s law i f is w =
     let up : held s i w.0 ≡ true = sym (is w.0) ∙ w.1 in
     let l : w.0 < 256 = ⊎_elim (λ a. a) (λ a. absurd (both_ways (held s i w.0) (held_past s law i w.0 a) up)) (cases_lt w.0 256) in
-    sym (lt-ltb 0 (count (held s i) 256) (count-some (held s i) 256 w.0 l up))
+    lt-ltb 0 (count (held s i) 256) (count-some (held s i) 256 w.0 l up)
+
+-- it raises no bit: nothing is held
+pub held_none : (s : Source) (i j : ℕ) (f : ℕ → Bool) → ((t : ℕ) → f t ≡ s.up2 i j t) → ((t : ℕ) → f t ≡ false) → held s i j ≡ false
+held_none s i j f is none = held_no s i j (λ t. sym (is t) ∙ none t)
+
+pub full_none : (s : Source) (i : ℕ) (f : ℕ → Bool) → ((t : ℕ) → f t ≡ held s i t) → ((t : ℕ) → f t ≡ false) → full (held s) i ≡ false
+unfolding blocks
+full_none s i f is none = ap (ltb 0) (never_count (held s i) 256 (λ t. sym (is t) ∙ none t))
 
 -- under a level-0 bit that is not raised no block holds anything
 pub row_off : (s : Source) → Lawful s → (i : ℕ) → s.up0 i ≡ false → (j : ℕ) → held s i j ≡ false

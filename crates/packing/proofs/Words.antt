@@ -1,8 +1,8 @@
 -- The words of a mask are those of its bits.
-use Rattle.std.proofs.Common.{◌≡◌, ℕ, zero, suc, ◌+◌, ◌*◌, ◌/◌, ◌%◌, ◌^◌, ◌<◌, Bool, cond, eqb, List, [], ◌∷◌, ◌++◌, length, get_or, sym, refl, ap, ◌∙◌, ap₂, mod-eq_of_lt, add-mul, add-one, one-add, arith}
+use Rattle.std.proofs.Common.{◌≡◌, ℕ, zero, suc, ◌+◌, ◌*◌, ◌/◌, ◌%◌, ◌^◌, ◌<◌, ◌≤◌, Bool, cond, eqb, List, [], ◌∷◌, ◌++◌, length, get_or, take, sym, refl, ap, ◌∙◌, ap₂, mod-eq_of_lt, add-mul, add-one, one-add, arith}
 use native.Mathlib.Nat.{mod-one}
 use Rattle.std.proofs.lemmas.Nat.{mod-pow-add, mod_below}
-use Rattle.std.proofs.lemmas.List.{length-append}
+use Rattle.std.proofs.lemmas.List.{length-append, take_more}
 use Rattle.bit_block.specs.Bit.{bit_of}
 use Rattle.bit_block.specs.Raised.{raised}
 use Rattle.bit_block.specs.declared.mask.Mask.{Mask}
@@ -57,3 +57,13 @@ length-words zero f = ap length (words-none f)
 length-words (suc k) f =
     ap (λ (x : ℕ). length (words_of x f)) (sym (add-one k)) ∙ ap length (words_more f k)
     ∙ length-append (words_of k f) (number (λ t. f (k * 64 + t)) 64 ∷ []) ∙ omega (arith, length-words k f)
+
+-- the first words of a mask are the words of its bits
+pub words_of_mask : (m : Mask) → ((t : ℕ) → get_or m.words t 0 < 2 ^ 64) → (k : ℕ) → k ≤ length m.words → take k m.words ≡ words_of k (raised m)
+words_of_mask m fits zero h = sym (words-none (raised m))
+words_of_mask m fits (suc k) h =
+    ap (λ (x : ℕ). take x m.words) (sym (add-one k))
+    ∙ take_more m.words k 0 (omega arith)
+    ∙ ap₂ (λ (xs : List ℕ) (w : ℕ). xs ++ w ∷ []) (words_of_mask m fits k (omega arith)) (sym (word_of m k (fits k)))
+    ∙ sym (words_more (raised m) k)
+    ∙ ap (λ (x : ℕ). words_of x (raised m)) (add-one k)

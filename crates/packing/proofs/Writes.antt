@@ -1,6 +1,8 @@
 -- Writes one after another.
 use Rattle.std.proofs.Common.{◌≡◌, ℕ, ◌+◌, ◌-◌, ◌<◌, ◌≤◌, List, [], ◌∷◌, ◌++◌, length, take, drop, set, sym, refl, ap, ◌∙◌, subst, ap₂, arith}
-use Rattle.std.proofs.lemmas.List.{append-nil, append_assoc, take-take, take_at, length-take-le, length-append, length-set, drop-drop, take_more_set, drop-set-lt}
+use Rattle.std.proofs.lemmas.List.{append-nil, append_assoc, take-take, take_at, length-take-le, length-append, length-drop, length-set, drop-drop, take_more_set, drop-set-lt}
+use Rattle.std.proofs.lemmas.Slice.{take-put_mid, drop-put_mid}
+use borrow.Rule.Slice.PartMut.{put_mid}
 use Rattle.packing.specs.Gathered.{gather}
 use Rattle.packing.specs.Wrote.{Wrote}
 use Rattle.packing.proofs.Ranges.{gather_more, gather_skip}
@@ -30,6 +32,16 @@ wrote_set xs b v h =
       front = take_more_set xs b v h;
       rest = drop-set-lt (b + 1) xs b v (omega arith);
     }
+
+-- words written over others
+pub wrote_over : (xs ys : List ℕ) (a k : ℕ) → length ys ≡ k → a + k ≤ length xs → Wrote xs (put_mid a k xs ys) a ys (a + k)
+wrote_over xs ys a k n h = record {
+  to = omega arith;
+  within = h;
+  long = omega (arith, length-append (take a xs) (ys ++ drop k (drop a xs)), length-append ys (drop k (drop a xs)), length-take-le a xs (omega arith), length-drop k (drop a xs), length-drop a xs);
+  front = take-put_mid a k xs ys (a + k) (omega arith) (omega arith);
+  rest = drop-put_mid a k xs ys (a + k) (omega arith) (omega arith) n;
+}
 
 -- one more word
 pub wrote_one : {x y : List ℕ} {a b : ℕ} {ys : List ℕ} → Wrote x y a ys b → (v : ℕ) → b < length y → Wrote x (set y b v) a (ys ++ v ∷ []) (b + 1)

@@ -22,16 +22,20 @@ row_count h = count (full h) 256
 abbrev pub block_count : (ℕ → ℕ → Bool) → ℕ
 block_count h = total (blocks h) 256
 
+-- the words, k to a mask, of the masks below n that f chooses, where g i t says whether bit t of mask i is raised
+abbrev pub chosen : ℕ → (ℕ → Bool) → (ℕ → ℕ → Bool) → ℕ → List ℕ
+chosen k f g n = gather (λ i. cond (f i) (words_of k (g i)) []) n
+
 -- the level-1 words, k to a row: of the rows below n, and all
 abbrev pub level1_to : ℕ → (ℕ → ℕ → Bool) → ℕ → List ℕ
-level1_to k h n = gather (λ i. cond (full h i) (words_of k (h i)) []) n
+level1_to k h n = chosen k (full h) h n
 
 abbrev pub level1 : ℕ → (ℕ → ℕ → Bool) → List ℕ
 level1 k h = level1_to k h 256
 
 -- the data words, k to a block: of row i, its blocks below n, and all; of the rows below n, and all
 abbrev pub data_row_to : ℕ → Source → ℕ → ℕ → List ℕ
-data_row_to k s i n = gather (λ j. cond (held s i j) (words_of k (s.up2 i j)) []) n
+data_row_to k s i n = chosen k (held s i) (s.up2 i) n
 
 abbrev pub data_row : ℕ → Source → ℕ → List ℕ
 data_row k s i = data_row_to k s i 256

@@ -1,12 +1,13 @@
 -- The source that packed words and their numbers are.
-use Rattle.std.specs.Prelude.{◌≡◌, ℕ, zero, suc, ◌*◌, ◌<◌, Bool, true, false, cond, T, List, Some, None, nat_lt}
+use Rattle.std.specs.Prelude.{◌≡◌, ℕ, zero, suc, ◌*◌, ◌<◌, Bool, true, false, cond, List, Option, Some, None, nat_lt, refl}
+use Rattle.std.specs.Option.{ForSome}
 use Rattle.std.proofs.Common.{sym, ap, subst, ⊎_elim, arith}
 use Rattle.std.proofs.lemmas.Bool.{and_parts, ltb-true, cases_Bool, false≢true}
 use Rattle.bit_block.specs.Raised.{raised}
 use Rattle.bit_block.specs.Ranges.{total, count}
 use Rattle.bitset_interface.specs.Source.{Source, Lawful}
 use Rattle.packing.specs.declared.Numbers.{Numbers}
-use Rattle.packing.specs.Meaning.{k1of, kdof, k1-whole, kd-whole, held_at, up_at, Wide, RowsHeld, BlocksHeld}
+use Rattle.packing.specs.Meaning.{k1of, kdof, k1-whole, kd-whole, held_at, up_at, Sound}
 
 find_one : (f : ℕ → Bool) (n : ℕ) → 0 < total (λ t. cond (f t) 1 0) n → (t : ℕ) × (f t ≡ true)
 unfolding total
@@ -27,21 +28,22 @@ viewed m ws = record { conf = Some m.config; trust = true; up0 = raised m.level0
 abbrev pub nothing : Source
 nothing = record { conf = None; trust = false; up0 = λ i. false; up1 = λ i j. false; up2 = λ i j k. false }
 
--- what a set over words is: the packed set where it is filled, else nothing
-abbrev pub set_source : Bool → Numbers → List ℕ → Source
-set_source true m ws = viewed m ws
-set_source false m ws = nothing
+-- what a set over words is: the packed set where there are numbers, else nothing
+abbrev pub set_source : Option Numbers → List ℕ → Source
+set_source (Some m) ws = viewed m ws
+set_source None ws = nothing
 
-viewed_lawful : (m : Numbers) (ws : List ℕ) → Wide m → RowsHeld m ws → BlocksHeld m ws → Lawful (viewed m ws)
+-- they are lawful
+pub viewed_lawful : (m : Numbers) (ws : List ℕ) → Sound m ws → Lawful (viewed m ws)
 unfolding held_at
-viewed_lawful m ws w r b = record {
-  below0 = w;
+viewed_lawful m ws sound = record {
+  below0 = sound.wide;
   below1 = λ i j e. subst (λ (n : ℕ). j < n) (sym (k1-whole m).0) (ltb-true j (k1of m * 64) (and_parts (nat_lt j (k1of m * 64)) _ (and_parts (raised m.level0 i) _ e).1).0);
   below2 = λ i j t e. subst (λ (n : ℕ). t < n) (sym (kd-whole m).0) (ltb-true t (kdof m * 64) (and_parts (nat_lt t (kdof m * 64)) _ (and_parts (held_at m ws i j) _ e).1).0);
   under1 = λ i j e. (and_parts (raised m.level0 i) _ e).0;
   under2 = λ i j t e. (and_parts (held_at m ws i j) _ e).0;
-  full0 = λ i _ e. found (held_at m ws i) (r i e);
-  full1 = λ i j _ e. found (up_at m ws i j) (b i j e);
+  full0 = λ i _ e. found (held_at m ws i) (sound.rows_held i e);
+  full1 = λ i j _ e. found (up_at m ws i j) (sound.blocks_held i j e);
 }
 
 nothing_lawful : Lawful nothing
@@ -55,6 +57,6 @@ nothing_lawful = record {
   full1 = λ i j t e. absurd (false≢true t);
 }
 
-pub set_lawful : (on : Bool) (m : Numbers) (ws : List ℕ) → (T on → Wide m) → (T on → RowsHeld m ws) → (T on → BlocksHeld m ws) → Lawful (set_source on m ws)
-set_lawful true m ws w r b = viewed_lawful m ws (w tt) (r tt) (b tt)
-set_lawful false m ws w r b = nothing_lawful
+pub set_lawful : (numbers : Option Numbers) (ws : List ℕ) → ForSome numbers (λ m. Sound m ws) → Lawful (set_source numbers ws)
+set_lawful (Some m) ws sound = viewed_lawful m ws (sound m refl)
+set_lawful None ws _ = nothing_lawful

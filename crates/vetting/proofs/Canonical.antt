@@ -15,7 +15,7 @@ use Rattle.packing.specs.declared.Numbers.{Numbers}
 use Rattle.packing.specs.Meaning.{k1of, kdof, len_of, held_at, block_place, up_at, Sound}
 use Rattle.packing.specs.Packed.{before, four, quarter, needed}
 use Rattle.packing.specs.Starts0.{start0}
-use Rattle.packing.specs.Views.{viewed, set_lawful}
+use Rattle.packing.specs.Views.{viewed, viewed_lawful}
 use Rattle.packing.proofs.Lookups.{len_fits, place_lt}
 use Rattle.packing.proofs.Selects.{same_word}
 use Rattle.vetting.specs.Reloads.{Words64, SamePositions}
@@ -47,7 +47,7 @@ module _ (s t : Source) (ls : Lawful s) (lt : Lawful t) (ts : s.trust ≡ true) 
 
 -- a set is a lawful source
 lawful : (m : Numbers) (ws : List ℕ) → Sound m ws → Lawful (viewed m ws)
-lawful m ws s = set_lawful true m ws (λ _. s.wide) (λ _. s.rows_held) (λ _. s.blocks_held)
+lawful = viewed_lawful
 
 module _ (m : Numbers) (ws : List ℕ) (k : Numbers) (vs : List ℕ) (fm : Words64 ws) (fk : Words64 vs)
     (sm : Sound m ws) (sk : Sound k vs) (conf : m.config ≡ k.config) (same : SamePositions m ws k vs) where

@@ -1,9 +1,11 @@
-use Rattle.std.proofs.Common.{◌-◌}
+use Rattle.std.proofs.Common.{◌≡◌, ℕ}
+use Rattle.bit_block.specs.Raised.{raised}
 use Rattle.packing.proofs.Measuring.{Rowed}
 use Rattle.packing.proofs.measure.Given as goal
 
-abbrev pub invariant-loop-found : goal.invariant-loop-found
-invariant-loop-found g l = Rowed (g.S.LevelMasks.means l.s) l.i l.level0 l.rows l.d
-
-abbrev pub decreases-loop-found : goal.decreases-loop-found
-decreases-loop-found g l = 257 - l.i
+-- the rows before the place that was reached in the level-0 mask are found
+abbrev pub invariant-loop-i : goal.invariant-loop-i
+invariant-loop-i g l = record {
+  mask : (t : ℕ) → raised l.i-iterator.mask t ≡ (g.S.LevelMasks.means l.s).up0 t;
+  found : Rowed (g.S.LevelMasks.means l.s) l.i-iterator.at l.level0 l.rows l.d;
+}
