@@ -1,5 +1,6 @@
 pub mod Gathered
 pub mod Starts0
+pub mod StartWords
 pub mod Packed
 pub mod Wrote
 pub mod Measures

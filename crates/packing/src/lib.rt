@@ -1,6 +1,8 @@
 // The packed form of a set: its numbers, and the walk over a source that finds what is stored.
 #![tactic(auto)]
 
+pub mod start_words;
+
 ghost use Rattle.std.specs.Prelude.{◌≡◌, ℕ, ◌+◌, ◌*◌, ◌/◌, ◌<◌, ◌≤◌, Bool, true, false, ◌&&◌, ◌||◌, ◌==◌, nat_lt, slice_index};
 ghost use Rattle.bit_block.specs.Raised.{raised};
 ghost use Rattle.bit_block.specs.Widths.{bits};
