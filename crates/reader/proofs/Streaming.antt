@@ -8,10 +8,6 @@ use Rattle.reader.specs.declared.fault.ReadFault.TheVariants.{Short}
 use Rattle.reader.specs.Streams.{Coming, past}
 use Rattle.reader.specs.Reads.{limited}
 
--- what is left of a slice behind its first n bytes
-pub rest_is : (n : ℕ) (xs : List ℕ) → take (length xs - n) (drop n xs) ≡ drop n xs
-rest_is n xs = take_all (length xs - n) (drop n xs) (omega (arith, length-drop n xs))
-
 -- a limit behind its first n bytes
 limit_tests : (m n k : ℕ) → n ≤ m → ltb (m - n) k ≡ ltb m (n + k)
 limit_tests m n k h =
