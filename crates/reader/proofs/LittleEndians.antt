@@ -130,7 +130,12 @@ numbers-take k (suc c) n xs h =
     ap₂ (λ (ys zs : List ℕ). value ys ∷ numbers k c zs) (take-take k n xs l) d
     ∙ ap (λ (ys : List ℕ). value (take k xs) ∷ ys) (numbers-take k c (n - k) (drop k xs) (omega (arith, suc-mul c k)))
 
--- what to_le_bytes gives of 16 bits
+-- what to_le_bytes gives of 8 bits
+pub le_bytes_1 : (x : ℕ) → x < 256 → x ∷ [] ≡ bytes 1 x
+unfolding bytes
+le_bytes_1 x h = ap (λ (y : ℕ). y ∷ []) (sym (mod-eq_of_lt h))
+
+-- of 16 bits
 pub le_bytes_2 : (x : ℕ) → (x % 256) ∷ (x / 256 % 256) ∷ [] ≡ bytes 2 x
 unfolding bytes
 le_bytes_2 x = refl
@@ -177,7 +182,11 @@ value_end : (xs : List ℕ) (n : ℕ) → length xs ≡ n → value (drop n xs) 
 unfolding value
 value_end xs n e = ap value (drop_all n xs (omega (arith, e)))
 
--- what from_le_bytes gives of 16 bits
+-- what from_le_bytes gives of 8 bits
+pub value_1 : (xs : List ℕ) → length xs ≡ 1 → get_or xs 0 0 ≡ value xs
+value_1 xs e = omega (arith, value_at xs 0, value_end xs 1 e)
+
+-- of 16 bits
 pub value_2 : (xs : List ℕ) → length xs ≡ 2 → get_or xs 0 0 + get_or xs 1 0 * 256 ≡ value xs
 value_2 xs e = omega (arith, value_at xs 0, value_at xs 1, value_end xs 2 e)
 
