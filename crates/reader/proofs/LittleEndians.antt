@@ -88,10 +88,19 @@ numbers_add k (suc a) b xs =
     ap (λ (n : ℕ). numbers k n xs) (suc-add a b) ∙ ap (λ (ys : List ℕ). value (take k xs) ∷ ys) (numbers_add k a b (drop k xs))
     ∙ ap (λ (ys : List ℕ). numbers k (suc a) xs ++ numbers k b ys) (drop_more k a xs)
 
+-- no numbers
+pub numbers_none : (k : ℕ) (xs : List ℕ) → numbers k 0 xs ≡ []
+unfolding numbers
+numbers_none k xs = refl
+
 -- one number
 pub numbers-one : (k : ℕ) (xs : List ℕ) → numbers k 1 xs ≡ value (take k xs) ∷ []
 unfolding numbers
 numbers-one k xs = refl
+
+-- one number more
+pub numbers_more : (k c : ℕ) (xs : List ℕ) → numbers k (c + 1) xs ≡ numbers k c xs ++ value (take k (drop (c * k) xs)) ∷ []
+numbers_more k c xs = numbers_add k c 1 xs ∙ ap (λ (ys : List ℕ). numbers k c xs ++ ys) (numbers-one k (drop (c * k) xs))
 
 -- number m
 pub get_or-numbers : (k c : ℕ) (xs : List ℕ) (m : ℕ) → m < c → get_or (numbers k c xs) m 0 ≡ value (take k (drop (m * k) xs))
@@ -99,6 +108,13 @@ unfolding numbers
 get_or-numbers k zero xs m h = absurd (omega arith)
 get_or-numbers k (suc c) xs zero h = ap (λ (ys : List ℕ). value (take k ys)) (drop-none k xs)
 get_or-numbers k (suc c) xs (suc m) h = get_or-numbers k c (drop k xs) m (omega arith) ∙ ap (λ (ys : List ℕ). value (take k ys)) (drop_more k m xs)
+
+-- numbers of one byte each are the bytes
+pub numbers_bytes : (c : ℕ) (xs : List ℕ) → c ≤ length xs → numbers 1 c xs ≡ take c xs
+unfolding numbers value
+numbers_bytes zero xs h = refl
+numbers_bytes (suc c) [] h = absurd (omega (arith, h))
+numbers_bytes (suc c) (x ∷ xs) h = let e : x + 256 * 0 ≡ x = omega arith in ap₂ (λ (y : ℕ) (ys : List ℕ). y ∷ ys) e (numbers_bytes c xs (omega (arith, h)))
 
 -- numbers that fit are what their bytes say, whatever follows
 pub numbers-laid : (k : ℕ) (ys rest : List ℕ) → ((t : ℕ) → get_or ys t 0 < 256 ^ k) → numbers k (length ys) (laid k ys ++ rest) ≡ ys
