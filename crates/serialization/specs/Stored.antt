@@ -1,5 +1,5 @@
 -- What an image stores: its numbers, and the words and starts of each level.
-use Rattle.std.specs.Prelude.{ℕ, ◌+◌, ◌-◌, ◌*◌, ◌/◌, ◌%◌, ◌^◌, List, [], ◌∷◌, take, drop, slice_index}
+use Rattle.std.specs.Prelude.{ℕ, ◌+◌, ◌*◌, ◌/◌, List, [], ◌∷◌, take, drop, slice_index}
 use Rattle.bit_block.specs.Widths.{bits}
 use Rattle.packing.specs.Gathered.{gather}
 use Rattle.packing.specs.StartWords.{field_in}

@@ -1,9 +1,8 @@
-use Rattle.std.proofs.Common.{◌≡◌, ℕ, ◌-◌, List, [], ◌∷◌, ◌++◌, length, take, drop, replicate, ap, ◌∙◌, ap₂, arith}
+use Rattle.std.proofs.Common.{◌≡◌, ℕ, ◌-◌, List, ◌++◌, length, take, drop, replicate, ap, ◌∙◌, ap₂, arith}
 use Rattle.std.proofs.lemmas.List.{length-take-le}
 use Rattle.std.proofs.lemmas.Result.{err_from_is_err_and}
 use Rattle.bit_block.specs.declared.config.Width.{Width}
 use Rattle.reader.specs.Streams.{Stream}
-use Rattle.reader.specs.LittleEndian.{value}
 use Rattle.reader.proofs.Fieldings.{took_one, took_not}
 use Rattle.serialization.specs.Layout.{size}
 use Rattle.serialization.proofs.Requests.{mask_is, zeros_behind}

@@ -5,5 +5,5 @@ use Rattle.serialization.proofs.fields.words_of.Given as goal
 abbrev pub invariant-loop-q : goal.invariant-loop-q
 invariant-loop-q l = record {
   long : length l.word-items ≡ 4;
-  filled : take l.q l.word-items ≡ numbers 8 l.q l.bytes
+  filled : take l.q l.word-items ≡ numbers 8 l.q l.bytes;
 }
