@@ -105,12 +105,12 @@ pub fn read_header<R: Reader>(reader: &mut R) -> Result<Header, AccessError>
     ensures rows { Gives result (λ h. h.n ≡ n_in (R.Reader.means reader.old).front.bytes) }
     ensures blocks { Gives result (λ h. h.d ≡ d_in (R.Reader.means reader.old).front.bytes) }
 {
-    let version = read_number(reader)?;
+    let version: u16 = read_number(reader)?;
     if version != FORMAT_VERSION {
         return Err(AccessError::FormatMismatch(version));
     }
-    let n = read_number(reader)?;
-    let d = read_number(reader)?;
+    let n: u16 = read_number(reader)?;
+    let d: u32 = read_number(reader)?;
     Ok(Header { n, d })
 }
 
