@@ -8,15 +8,15 @@ use Rattle.serialization.specs.Layout.{size}
 use Rattle.serialization.proofs.Requests.{mask_is, zeros_behind}
 use Rattle.serialization.proofs.fields.read_mask.Goals as goal
 
-pub returns-in_err-read_exact : goal.returns-in_err-read_exact
-returns-in_err-read_exact g c =
+pub returns-in_err-read_exact-clause-took : goal.returns-in_err-read_exact-clause-took
+returns-in_err-read_exact-clause-took g c =
     let p = err_from_is_err_and c.from_residual.result c.from_residual.ensures.1 in
     let s : Stream = g.R.Reader.means c.args.reader.now in
     let t : Stream = g.R.Reader.means c.read_exact.new.self in
     let k : ℕ = c.mask_size.result in
     let f = c.in_err-read_exact.field-0.0 in
     let l : length (take k (replicate 32 0)) ≡ size c.args.width = length-take-le k (replicate 32 0) (omega (arith, c.mask_size.ensures.small)) ∙ c.mask_size.ensures.is in
-    rw (p.1, p.2) (record { took = took_not (size c.args.width) s t (take k (replicate 32 0)) c.read_exact.new.buf f l c.in_err-read_exact.ensures; gives = tt })
+    rw (p.1, p.2) (took_not (size c.args.width) s t (take k (replicate 32 0)) c.read_exact.new.buf f l c.in_err-read_exact.ensures)
 
 pub returns : goal.returns
 returns g c =

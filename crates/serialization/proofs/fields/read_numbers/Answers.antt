@@ -1,9 +1,9 @@
-use Rattle.std.proofs.Common.{◌≡◌, ℕ, ◌*◌, List, [], ◌∷◌, ◌++◌, length, take, drop, map, None, sym, ap, ◌∙◌, subst, ap₂, arith}
-use Rattle.std.proofs.lemmas.List.{take_more_set, take_all, map-append}
+use Rattle.std.proofs.Common.{◌≡◌, ℕ, ◌*◌, List, [], ◌∷◌, ◌++◌, take, drop, map, sym, ap, ◌∙◌, ap₂, arith}
+use Rattle.std.proofs.lemmas.List.{take_more_set, map-append}
 use Rattle.std.proofs.lemmas.Result.{err_from_is_err_and}
 use Rattle.reader.specs.Streams.{Stream}
-use Rattle.reader.specs.Fields.{Took, many, size_of}
-use Rattle.reader.specs.LittleEndian.{value, numbers}
+use Rattle.reader.specs.Fields.{many, size_of}
+use Rattle.reader.specs.LittleEndian.{value}
 use Rattle.reader.proofs.Fieldings.{run_none, run_more, run_stop, size_of-one}
 use Rattle.reader.proofs.LittleEndians.{numbers_none, numbers_more}
 use Rattle.serialization.proofs.fields.read_numbers.Goals as goal
@@ -36,16 +36,3 @@ loop-number-preserved g c =
           ∙ ap₂ (λ (xs : List ℕ) (x : ℕ). xs ++ x ∷ []) c.loop-number.invariant.filled value_is
           ∙ sym (numbers_more k i s.front.bytes);
     }
-
-pub returns-clause-took : goal.returns-clause-took
-returns-clause-took g c =
-    let s : Stream = g.R.Reader.means c.args.reader.now in
-    let e : c.loop-number.number-index ≡ length c.args.room.now = omega arith in
-    subst (λ (n : ℕ). Took (many n g.row.N ∷ []) s None (g.R.Reader.means c.loop-number.reader)) e c.loop-number.invariant.took
-
-pub returns-clause-gives : goal.returns-clause-gives
-returns-clause-gives g c =
-    let s : Stream = g.R.Reader.means c.args.reader.now in
-    let i : ℕ = c.loop-number.number-index in
-    let e : i ≡ length c.args.room.now = omega arith in
-    ap (map g.T.LittleEndian.number) (sym (take_all i c.loop-number.room (omega arith))) ∙ c.loop-number.invariant.filled ∙ ap (λ (n : ℕ). numbers g.row.N n s.front.bytes) e

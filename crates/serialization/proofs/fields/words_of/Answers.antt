@@ -1,6 +1,6 @@
 use Rattle.std.proofs.Common.{◌≡◌, ℕ, ◌*◌, ◌/◌, List, [], ◌∷◌, ◌++◌, length, get_or, take, drop, sym, refl, ap, ◌∙◌, ap₂, arith}
-use Rattle.std.proofs.lemmas.List.{take_more_set, take_all, length-set}
-use Rattle.reader.specs.LittleEndian.{value, numbers}
+use Rattle.std.proofs.lemmas.List.{take_more_set, length-set}
+use Rattle.reader.specs.LittleEndian.{value}
 use Rattle.reader.proofs.LittleEndians.{value_8, numbers_none, numbers_more}
 use Rattle.serialization.proofs.Requests.{chunk_at, length_chunk}
 use Rattle.serialization.proofs.fields.words_of.Goals as goal
@@ -22,8 +22,3 @@ loop-q-preserved c =
           ∙ ap₂ (λ (xs : List ℕ) (x : ℕ). xs ++ x ∷ []) c.loop-q.invariant.filled word
           ∙ sym (numbers_more 8 q bs);
     }
-
-pub returns : goal.returns
-returns c =
-    let e : c.loop-q.q ≡ 4 = omega arith in
-    sym (take_all c.loop-q.q c.loop-q.word-items (omega (arith, c.loop-q.invariant.long))) ∙ c.loop-q.invariant.filled ∙ ap (λ (n : ℕ). numbers 8 n c.args.bytes.now) e

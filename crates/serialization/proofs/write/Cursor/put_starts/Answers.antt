@@ -1,4 +1,4 @@
-use Rattle.std.proofs.Common.{◌≡◌, ℕ, ◌+◌, ◌≤◌, List, [], ◌∷◌, ◌++◌, length, sym, ap, ◌∙◌, arith}
+use Rattle.std.proofs.Common.{ℕ, ◌+◌, ◌≤◌, List, [], ◌∷◌, ◌++◌, length, sym, ap, ◌∙◌, arith}
 use Rattle.packing.specs.Gathered.{gather}
 use Rattle.packing.proofs.Lengths.{length_singles}
 use Rattle.packing.proofs.Ranges.{gather_none, gather_more}
@@ -30,8 +30,3 @@ loop-q-preserved c =
     let ws : List ℕ = c.args.words.now in
     puts_as (puts_then c.loop-q.invariant c.put_number.ensures)
     (ap (λ (x : ℕ). laid 2 (starts ws q) ++ bytes 2 x) c.start_in.ensures ∙ laid_more 2 (field_at ws q) (starts ws q) ∙ ap (laid 2) (sym (gather_more (λ t. field_at ws t ∷ []) q)))
-
-pub returns : goal.returns
-returns c =
-    let e : c.loop-q.q ≡ c.args.count = omega arith in
-    puts_as c.loop-q.invariant (ap (λ (n : ℕ). laid 2 (starts c.args.words.now n)) e)

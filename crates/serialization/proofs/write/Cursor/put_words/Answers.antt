@@ -1,5 +1,5 @@
 use Rattle.std.proofs.Common.{ℕ, ◌+◌, ◌≤◌, List, length, get_or, take, sym, ap, ◌∙◌, arith}
-use Rattle.std.proofs.lemmas.List.{take_more, take_all, length-take-le}
+use Rattle.std.proofs.lemmas.List.{take_more, length-take-le}
 use Rattle.reader.specs.LittleEndian.{laid}
 use Rattle.reader.proofs.LittleEndians.{length-laid}
 use Rattle.serialization.proofs.Laying.{laid_none, laid_more}
@@ -22,6 +22,3 @@ loop-word-preserved c =
     let q : ℕ = c.loop-word.word-index in
     let ws : List ℕ = c.args.words.now in
     puts_as (puts_then c.loop-word.invariant c.put_number.ensures) (laid_more 8 (get_or ws q 0) (take q ws) ∙ ap (laid 8) (sym (take_more ws q 0 (omega arith))))
-
-pub returns : goal.returns
-returns c = puts_as c.loop-word.invariant (ap (laid 8) (take_all c.loop-word.word-index c.args.words.now (omega arith)))
