@@ -5,6 +5,8 @@ use Rattle.bit_block.specs.declared.config.Width.{Width}
 use Rattle.reader.specs.LittleEndian.{bytes, laid}
 use Rattle.reader.proofs.LittleEndians.{laid-append, length-laid}
 use Rattle.serialization.specs.Layout.{size, words, padding}
+use Rattle.serialization.specs.Writing.{Puts}
+use Rattle.serialization.specs.declared.write.Cursor.{Cursor}
 use Rattle.serialization.proofs.Lengths.{masks-words}
 
 -- no numbers have no bytes
@@ -21,10 +23,10 @@ laid-one k v = append-nil (bytes k v)
 pub laid_more : (k v : ℕ) (xs : List ℕ) → laid k xs ++ bytes k v ≡ laid k (xs ++ v ∷ [])
 laid_more k v xs = ap (λ (ys : List ℕ). laid k xs ++ ys) (sym (laid-one k v)) ∙ sym (laid-append k xs (v ∷ []))
 
--- behind a padding
-pub padded : (w : Width) (at base r : ℕ) → at ≡ base → r ≡ at + length (replicate {A = ℕ} (padding (size w) at) 0) → r ≡ base + padding (size w) base
-padded w at base r e h = omega (arith, e, h, length-replicate {A = ℕ} (padding (size w) at) 0, ap (padding (size w)) e)
+-- where a padding ends
+pub padded : (w : Width) (base : ℕ) {o n : Cursor} → o.at ≡ base → Puts o n (replicate (padding (size w) o.at) 0) → n.at ≡ base + padding (size w) base
+padded w base {o} {n} e p = omega (arith, e, p.wrote.to, length-replicate {A = ℕ} (padding (size w) o.at) 0, ap (padding (size w)) e)
 
--- the bytes of n masks
-pub laid_masks : (w : Width) (n : ℕ) (xs : List ℕ) → length xs ≡ n * words w → length (laid 8 xs) ≡ n * size w
-laid_masks w n xs e = omega (arith, e, length-laid 8 xs, masks-words w n)
+-- where the words of k masks end
+pub masked : (w : Width) (k : ℕ) (xs : List ℕ) {o n : Cursor} → length xs ≡ k * words w → Puts o n (laid 8 xs) → n.at ≡ o.at + k * size w
+masked w k xs {o} {n} e p = omega (arith, e, p.wrote.to, length-laid 8 xs, masks-words w k)

@@ -4,7 +4,7 @@ use Rattle.packing.specs.Meaning.{kdof}
 use Rattle.packing.specs.declared.Numbers.{Numbers}
 use Rattle.reader.specs.LittleEndian.{laid}
 use Rattle.serialization.specs.Layout.{size, padding, starts1_end}
-use Rattle.serialization.proofs.Laying.{padded, laid_masks}
+use Rattle.serialization.proofs.Laying.{padded, masked}
 use Rattle.serialization.proofs.Lengths.{masks-words}
 use Rattle.serialization.proofs.Puts.{puts_then, puts_as}
 use Rattle.serialization.proofs.write.Cursor.put_blocks.Goals as goal
@@ -14,14 +14,7 @@ unfolding kdof
 put_words-requires c =
     let m : Numbers = c.args.set.now.numbers in
     let w : Width = m.config.«data» in
-    omega (
-      arith,
-      c.requires.fits,
-      c.block_words.ensures.long,
-      c.put_padding.ensures.wrote.long,
-      padded w c.args.self.now.at (starts1_end m.config m.n) c.put_padding.new.self.at c.requires.place c.put_padding.ensures.wrote.to,
-      masks-words w m.d,
-    )
+    omega (arith, c.requires.fits, c.block_words.ensures.long, c.put_padding.ensures.wrote.long, padded w (starts1_end m.config m.n) c.requires.place c.put_padding.ensures, masks-words w m.d)
 
 pub returns-clause-puts : goal.returns-clause-puts
 returns-clause-puts c =
@@ -33,9 +26,4 @@ unfolding kdof
 returns-clause-end c =
     let m : Numbers = c.args.set.now.numbers in
     let w : Width = m.config.«data» in
-    omega (
-      arith,
-      c.put_words.ensures.wrote.to,
-      padded w c.args.self.now.at (starts1_end m.config m.n) c.put_padding.new.self.at c.requires.place c.put_padding.ensures.wrote.to,
-      laid_masks w m.d c.block_words.result.now c.block_words.ensures.long,
-    )
+    omega (arith, padded w (starts1_end m.config m.n) c.requires.place c.put_padding.ensures, masked w m.d _ c.block_words.ensures.long c.put_words.ensures)

@@ -5,15 +5,13 @@ use Rattle.bit_block.proofs.Places.{sized}
 use Rattle.packing.specs.declared.Numbers.{Numbers}
 use Rattle.reader.specs.LittleEndian.{laid}
 use Rattle.serialization.specs.Layout.{size, words, padding}
-use Rattle.serialization.proofs.Laying.{padded, laid_masks}
+use Rattle.serialization.proofs.Laying.{padded, masked}
 use Rattle.serialization.proofs.Puts.{puts_then, puts_as}
 use Rattle.serialization.proofs.write.Cursor.put_level0.Goals as goal
 
--- the bytes of a mask that is the first words of four
-mask_long : (w : Width) (ws : List ℕ) (k : ℕ) → length ws ≡ 4 → k ≡ words w → length (laid 8 (take k ws)) ≡ size w
-mask_long w ws k four e =
-    let l : length (take k ws) ≡ 1 * words w = length-take-le k ws (omega (arith, four, e, (sized w).most)) ∙ (let z : k ≡ 1 * words w = omega (arith, e) in z) in
-    laid_masks w 1 (take k ws) l ∙ (let z : 1 * size w ≡ size w = omega arith in z)
+-- the mask has the first words of four
+top_long : (w : Width) (ws : List ℕ) (k : ℕ) → length ws ≡ 4 → k ≡ words w → length (take k ws) ≡ 1 * words w
+top_long w ws k four e = length-take-le k ws (omega (arith, four, e, (sized w).most)) ∙ (let z : k ≡ 1 * words w = omega (arith, e) in z)
 
 pub put_bytes-requires : goal.put_bytes-requires
 put_bytes-requires c =
@@ -22,12 +20,11 @@ put_bytes-requires c =
     let eight : length m.starts ≡ 8 = search rules in
     omega (
       arith,
-      padded m.config.level0 c.args.self.now.at 8 c.put_padding.new.self.at c.requires.place c.put_padding.ensures.wrote.to,
-      mask_long m.config.level0 m.level0.words (c.bits-top.result / 64) four (ap (λ (x : ℕ). x / 64) c.bits-top.ensures),
       c.requires.fits,
-      c.put_words.ensures.wrote.to,
-      c.put_words.ensures.wrote.long,
+      padded m.config.level0 8 c.requires.place c.put_padding.ensures,
+      masked m.config.level0 1 _ (top_long m.config.level0 m.level0.words (c.bits-top.result / 64) four (ap (λ (x : ℕ). x / 64) c.bits-top.ensures)) c.put_words.ensures,
       c.put_padding.ensures.wrote.long,
+      c.put_words.ensures.wrote.long,
     )
 
 pub returns-clause-puts : goal.returns-clause-puts
@@ -43,8 +40,7 @@ returns-clause-end c =
     let eight : length m.starts ≡ 8 = search rules in
     omega (
       arith,
-      padded m.config.level0 c.args.self.now.at 8 c.put_padding.new.self.at c.requires.place c.put_padding.ensures.wrote.to,
-      mask_long m.config.level0 m.level0.words (c.bits-top.result / 64) four (ap (λ (x : ℕ). x / 64) c.bits-top.ensures),
-      c.put_words.ensures.wrote.to,
+      padded m.config.level0 8 c.requires.place c.put_padding.ensures,
+      masked m.config.level0 1 _ (top_long m.config.level0 m.level0.words (c.bits-top.result / 64) four (ap (λ (x : ℕ). x / 64) c.bits-top.ensures)) c.put_words.ensures,
       c.put_bytes.ensures.wrote.to,
     )

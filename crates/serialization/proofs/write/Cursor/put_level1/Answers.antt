@@ -8,7 +8,7 @@ use Rattle.reader.specs.LittleEndian.{laid}
 use Rattle.reader.proofs.LittleEndians.{length-laid}
 use Rattle.serialization.specs.Layout.{size, padding, starts0_end}
 use Rattle.serialization.specs.Stored.{field_at}
-use Rattle.serialization.proofs.Laying.{padded, laid_masks}
+use Rattle.serialization.proofs.Laying.{padded, masked}
 use Rattle.serialization.proofs.Lengths.{masks-words}
 use Rattle.serialization.proofs.Puts.{puts_then, puts_as}
 use Rattle.serialization.proofs.write.Cursor.put_level1.Goals as goal
@@ -18,14 +18,7 @@ unfolding k1of
 put_words-requires c =
     let m : Numbers = c.args.set.now.numbers in
     let w : Width = m.config.level1 in
-    omega (
-      arith,
-      c.requires.fits,
-      c.mask_words.ensures.long,
-      c.put_padding.ensures.wrote.long,
-      padded w c.args.self.now.at (starts0_end m.config) c.put_padding.new.self.at c.requires.place c.put_padding.ensures.wrote.to,
-      masks-words w m.n,
-    )
+    omega (arith, c.requires.fits, c.mask_words.ensures.long, c.put_padding.ensures.wrote.long, padded w (starts0_end m.config) c.requires.place c.put_padding.ensures, masks-words w m.n)
 
 pub put_starts-requires-clause-fits : goal.put_starts-requires-clause-fits
 unfolding k1of
@@ -38,9 +31,8 @@ put_starts-requires-clause-fits c =
       c.level1_len.ensures,
       c.put_padding.ensures.wrote.long,
       c.put_words.ensures.wrote.long,
-      c.put_words.ensures.wrote.to,
-      padded w c.args.self.now.at (starts0_end m.config) c.put_padding.new.self.at c.requires.place c.put_padding.ensures.wrote.to,
-      laid_masks w m.n c.mask_words.result.now c.mask_words.ensures.long,
+      padded w (starts0_end m.config) c.requires.place c.put_padding.ensures,
+      masked w m.n _ c.mask_words.ensures.long c.put_words.ensures,
     )
 
 pub returns-clause-puts : goal.returns-clause-puts
@@ -59,10 +51,9 @@ returns-clause-end c =
     omega (
       arith,
       c.level1_len.ensures,
-      c.put_words.ensures.wrote.to,
+      padded w (starts0_end m.config) c.requires.place c.put_padding.ensures,
+      masked w m.n _ c.mask_words.ensures.long c.put_words.ensures,
       c.put_starts.ensures.wrote.to,
-      padded w c.args.self.now.at (starts0_end m.config) c.put_padding.new.self.at c.requires.place c.put_padding.ensures.wrote.to,
-      laid_masks w m.n c.mask_words.result.now c.mask_words.ensures.long,
       length-laid 2 (gather (λ q. field_at ws q ∷ []) n),
       length_singles (field_at ws) n,
     )
