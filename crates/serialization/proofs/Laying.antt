@@ -3,11 +3,11 @@ use Rattle.std.proofs.Common.{◌≡◌, ℕ, ◌+◌, ◌*◌, [], ◌∷◌, �
 use Rattle.std.proofs.lemmas.List.{append-nil, length-replicate}
 use Rattle.bit_block.specs.declared.config.Width.{Width}
 use Rattle.reader.specs.LittleEndian.{bytes, laid}
-use Rattle.reader.proofs.LittleEndians.{laid-append, length-laid}
+use Rattle.reader.proofs.LittleEndians.{laid-append}
 use Rattle.serialization.specs.Layout.{size, words, padding}
 use Rattle.serialization.specs.Writing.{Puts}
 use Rattle.serialization.specs.declared.write.Cursor.{Cursor}
-use Rattle.serialization.proofs.Lengths.{masks-words}
+use Rattle.serialization.proofs.Lengths.{length_masks}
 
 -- no numbers have no bytes
 pub laid_none : (k : ℕ) → laid k [] ≡ []
@@ -29,4 +29,4 @@ padded w base {o} {n} e p = omega (arith, e, p.wrote.to, length-replicate {A = �
 
 -- where the words of k masks end
 pub masked : (w : Width) (k : ℕ) (xs : List ℕ) {o n : Cursor} → length xs ≡ k * words w → Puts o n (laid 8 xs) → n.at ≡ o.at + k * size w
-masked w k xs {o} {n} e p = omega (arith, e, p.wrote.to, length-laid 8 xs, masks-words w k)
+masked w k xs {o} {n} e p = omega (arith, p.wrote.to, length_masks w k xs e)

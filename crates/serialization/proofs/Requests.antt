@@ -4,6 +4,7 @@ use Rattle.std.specs.Simd.{first_chunks}
 use Rattle.std.proofs.lemmas.List.{length-take-le, drop-drop, drop_at}
 use Rattle.bit_block.specs.declared.config.Width.{Width}
 use Rattle.bit_block.specs.declared.config.Width.TheVariants.{W64, W128, W256}
+use Rattle.bit_block.proofs.Places.{sized}
 use Rattle.reader.specs.declared.fault.ReadFault.{ReadFault}
 use Rattle.reader.specs.Streams.{Stream}
 use Rattle.reader.specs.Reads.{Reads}
@@ -13,6 +14,7 @@ use Rattle.reader.proofs.Fieldings.{took_one, took_not}
 use Rattle.reader.proofs.LittleEndians.{numbers_add, numbers_front, numbers-take}
 use Rattle.serialization.specs.Layout.{size, words}
 use Rattle.serialization.specs.Fieldwise.{mask_in}
+use Rattle.serialization.proofs.Lengths.{size-words}
 
 -- a request is a field, whatever its answer
 pub took_any : (k : ℕ) (s t : Stream) (buf now : List ℕ) (r : Result (Unit {0}) ReadFault) → length buf ≡ k → Reads s buf r t now → Took (one k ∷ []) s (faulted r) t
@@ -38,22 +40,18 @@ zero-words W64 = refl
 zero-words W128 = refl
 zero-words W256 = refl
 
-whole : (w : Width) → (size w ≡ words w * 8) × (words w + (4 - words w) ≡ 4)
-whole W64 = (refl, refl)
-whole W128 = (refl, refl)
-whole W256 = (refl, refl)
-
 -- a mask read into zeros
 pub mask_is : (w : Width) (xs b : List ℕ) → size w ≤ length xs → b ≡ take (size w) xs ++ replicate (32 - size w) 0 → numbers 8 4 b ≡ mask_in w xs
 mask_is w xs b h e =
     let k : ℕ = words w in
     let front : List ℕ = take (size w) xs in
     let zs : List ℕ = replicate (32 - size w) 0 in
-    let l : length front ≡ k * 8 = length-take-le (size w) xs h ∙ (whole w).0 in
-    ap₂ (λ (n : ℕ) (ys : List ℕ). numbers 8 n ys) (sym (whole w).1) e
+    let l : length front ≡ k * 8 = length-take-le (size w) xs h ∙ size-words w in
+    let four : 4 ≡ k + (4 - k) = omega (arith, (sized w).most) in
+    ap₂ (λ (n : ℕ) (ys : List ℕ). numbers 8 n ys) four e
     ∙ numbers_add 8 k (4 - k) (front ++ zs)
     ∙ ap₂ (λ (x y : List ℕ). x ++ y)
-    (numbers_front 8 k front zs (omega (arith, l)) ∙ numbers-take 8 k (size w) xs (omega (arith, (whole w).0)))
+    (numbers_front 8 k front zs (omega (arith, l)) ∙ numbers-take 8 k (size w) xs (omega (arith, size-words w)))
     (ap (numbers 8 (4 - k)) (drop_at front zs (k * 8) l) ∙ zero-words w)
 
 -- zeros behind a mask's bytes
