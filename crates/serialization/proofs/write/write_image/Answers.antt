@@ -1,40 +1,26 @@
-use Rattle.std.proofs.Common.{◌≡◌, ℕ, ◌<◌, ◌≤◌, false, length, Some, None, leb, sym, refl, subst, ⊎_elim, arith, rules}
-use Rattle.std.proofs.lemmas.Bool.{and_left, and_right, lt-leb, cond-false}
+use Rattle.std.proofs.Common.{sym, refl, arith, rules}
+use Rattle.std.proofs.lemmas.Bool.Decides.{nat_tests}
 use Rattle.packing.specs.declared.Numbers.{Numbers}
 use Rattle.packing.specs.Meaning.{k1of, kdof}
-use Rattle.packing.specs.Packed.{needed}
 use Rattle.packing.specs.Wrote.{Wrote}
 use Rattle.packing.proofs.Writes.{wrote_as}
 use Rattle.serialization.specs.Image.{image}
 use Rattle.serialization.specs.Stored.{stored}
-use Rattle.serialization.specs.Writing.{writable, length_of, image_of}
+use Rattle.serialization.specs.Writing.{length_of, image_of}
 use Rattle.serialization.proofs.Imaging.{length-header}
 use Rattle.serialization.proofs.Puts.{puts_then}
 use Rattle.serialization.proofs.write.write_image.Goals as goal
 
--- all the words that the numbers declare
-abbrev all-of : Numbers → ℕ
-all-of m = needed (k1of m) (kdof m) m.n m.d
-
 pub returns-then-words-all-clause-answer : goal.returns-then-words-all-clause-answer
 unfolding k1of kdof
-returns-then-words-all-clause-answer c =
-    let m : Numbers = c.args.numbers.now in
-    let words : ℕ = length c.args.words.now in
-    let room : ℕ = length c.args.buffer.now in
-    let no : writable m c.args.words.now room ≡ false =
-    ⊎_elim
-    (λ l. and_left (leb (all-of m) words) (leb (length_of m) room) (lt-leb (all-of m) words (subst (λ (x : ℕ). words < x) c.words_needed-all.ensures l)))
-    (λ l. and_right (leb (all-of m) words) (leb (length_of m) room) (lt-leb (length_of m) room (subst (λ (x : ℕ). room < x) c.new-offsets.ensures.len l.1)))
-    c.then-words-all.either in
-    sym (cond-false (writable m c.args.words.now room) (Some (length_of m)) None no)
+returns-then-words-all-clause-answer c = grind (arith, nat_tests, c.words_needed-all.ensures, c.new-offsets.ensures.len, c.then-words-all.either)
 
 pub put_level0-requires-clause-place : goal.put_level0-requires-clause-place
 put_level0-requires-clause-place c = omega (arith, c.put_header.ensures.wrote.to, length-header (stored c.args.numbers.now c.args.words.now))
 
 pub invariant_of-set : goal.invariant_of-set
 unfolding k1of kdof
-invariant_of-set c = record { all = subst (λ (x : ℕ). x ≤ length c.args.words.now) c.words_needed-all.ensures c.if-words-all.false }
+invariant_of-set c = record { all = omega (arith, c.words_needed-all.ensures, c.if-words-all.false) }
 
 pub returns-clause-wrote : goal.returns-clause-wrote
 unfolding image
