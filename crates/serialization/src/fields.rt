@@ -10,7 +10,7 @@ ghost use Rattle.serialization.specs.Layout.{size, padding, top_fields};
 ghost use Rattle.serialization.specs.Outcomes.{headed};
 
 use crate::error::AccessError;
-use crate::layout::{HEADER_SIZE, mask_size, padding_for};
+use crate::layout::{HEADER_SIZE, Offsets, mask_size, padding_for};
 use bit_block::config::{Config, Width};
 use bit_block::mask::Mask;
 use packing::Numbers;
@@ -126,7 +126,7 @@ pub fn read_top<R: Reader>(
     skip_padding(reader, config.level0, HEADER_SIZE)?;
     let level0 = read_mask(reader, config.level0)?;
     let starts = read_starts(reader)?;
-    let end = HEADER_SIZE + padding_for(config.level0, HEADER_SIZE) + mask_size(config.level0) + 8;
+    let end = Offsets::new(config, header.n, header.d).level0_starts + 8;
     skip_padding(reader, config.level1, end)?;
     Ok(Numbers {
         config,

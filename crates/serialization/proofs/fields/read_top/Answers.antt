@@ -66,7 +66,7 @@ returns-in_err-skip_padding-2-clause-took g c =
     let t4 : Stream = g.R.Reader.means c.skip_padding-2.new.reader in
     let e : ReadFault = c.in_err-skip_padding-2.field-0.0 in
     let three : Took (first k ++ mask k ++ starts) s None t3 = three-read k s t1 t2 t3 c.in_ok-skip_padding.ensures c.in_ok-level0.ensures.took c.in_ok-starts.ensures.took in
-    let at : 8 + c.padding_for.result + c.mask_size.result + 8 ≡ starts0_end k = omega (arith, c.padding_for.ensures.is, c.mask_size.ensures.is) in
+    let at : c.new-end.result.level0_starts + 8 ≡ starts0_end k = omega (arith, c.new-end.ensures.starts0) in
     rw (p.1, p.2) (took_then (first k ++ mask k ++ starts) (last k) (Some e) s t3 t4 three (subst (λ (n : ℕ). Took (one (padding (size k.level1) n) ∷ []) t3 (Some e) t4) at c.in_err-skip_padding-2.ensures))
 
 pub returns-clause-took : goal.returns-clause-took
@@ -78,7 +78,7 @@ returns-clause-took g c =
     let t3 : Stream = g.R.Reader.means c.read_starts.new.reader in
     let t4 : Stream = g.R.Reader.means c.skip_padding-2.new.reader in
     let three : Took (first k ++ mask k ++ starts) s None t3 = three-read k s t1 t2 t3 c.in_ok-skip_padding.ensures c.in_ok-level0.ensures.took c.in_ok-starts.ensures.took in
-    let at : 8 + c.padding_for.result + c.mask_size.result + 8 ≡ starts0_end k = omega (arith, c.padding_for.ensures.is, c.mask_size.ensures.is) in
+    let at : c.new-end.result.level0_starts + 8 ≡ starts0_end k = omega (arith, c.new-end.ensures.starts0) in
     took_then (first k ++ mask k ++ starts) (last k) None s t3 t4 three (subst (λ (n : ℕ). Took (one (padding (size k.level1) n) ∷ []) t3 None t4) at c.in_ok-skip_padding-2.ensures)
 
 pub returns-clause-gives : goal.returns-clause-gives
