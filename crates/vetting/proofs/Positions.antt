@@ -1,14 +1,15 @@
 -- Sets with the same numbers and words hold the same positions.
 use Rattle.std.proofs.Common.{◌≡◌, ℕ, ◌+◌, ◌*◌, ◌/◌, ◌%◌, ◌<◌, ◌≤◌, Bool, true, ◌&&◌, ltb, List, get_or, Some, Option, sym, ap, ◌∙◌, ap₂, ⊎_elim, mul-le-mul_right, add-mul, arith}
 use mathlib.Core.Path.{fun_ext}
-use Rattle.std.proofs.lemmas.Bool.{and_left, cases_Bool, cases_lt}
+use Rattle.std.proofs.lemmas.Bool.Decides.{nat_tests}
+use Rattle.std.proofs.lemmas.Bool.{cases_Bool, cases_lt}
 use Rattle.bit_block.specs.Bit.{bit_of}
 use Rattle.bit_block.specs.Raised.{raised}
 use Rattle.bit_block.specs.Widths.{capacity, index0, index1, index_d}
 use Rattle.bit_block.specs.declared.config.Config.{Config}
 use Rattle.bit_block.proofs.Places.{sized}
 use Rattle.packing.specs.declared.Numbers.{Numbers}
-use Rattle.packing.specs.Meaning.{k1of, kdof, len_of, word_place, held_at, rank, block_place, bit_from, up_at, Sound}
+use Rattle.packing.specs.Meaning.{k1of, kdof, len_of, word_place, held_at, rank, block_place, up_at, Sound}
 use Rattle.packing.specs.Packed.{needed}
 use Rattle.packing.proofs.Lookups.{len_fits, place_lt, rank_lt, not_row, not_wide}
 use Rattle.vetting.specs.Reloads.{Words64, SamePositions}
@@ -80,12 +81,7 @@ module _ (m : Numbers) (ws : List ℕ) (k : Numbers) (vs : List ℕ) (fm : Words
   -- with the same bits
   up : (i j t : ℕ) → up_at m ws i j t ≡ up_at k vs i j t
   up i j t =
-      ⊎_elim
-      (λ l. ⊎_elim
-      (λ h. up_held i j h t l)
-      (λ no. and_left (held_at m ws i j) (bit_from ws (block_place m ws i j) (kdof m) t) no
-      ∙ sym (and_left (held_at k vs i j) (bit_from vs (block_place k vs i j) (kdof k) t) (sym (held i j) ∙ no)))
-      (cases_Bool (held_at m ws i j)))
+      ⊎_elim (λ l. let h = λ (e : held_at m ws i j ≡ true). up_held i j e t l in grind (arith, nat_tests, h, held i j))
       (λ l. up_wide m ws i j t l ∙ sym (up_wide k vs i j t (omega (arith, ed))))
       (cases_lt t (kdof m * 64))
 
