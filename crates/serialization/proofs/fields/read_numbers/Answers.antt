@@ -1,6 +1,5 @@
-use Rattle.std.proofs.Common.{◌≡◌, ℕ, ◌*◌, List, [], ◌∷◌, ◌++◌, take, drop, map, sym, ap, ◌∙◌, ap₂, arith}
+use Rattle.std.proofs.Common.{◌≡◌, ℕ, ◌*◌, List, [], ◌∷◌, ◌++◌, length, take, drop, map, sym, ap, ◌∙◌, ap₂, arith, rules}
 use Rattle.std.proofs.lemmas.List.{take_more_set, map-append}
-use Rattle.std.proofs.lemmas.Result.{err_from_is_err_and}
 use Rattle.reader.specs.Streams.{Stream}
 use Rattle.reader.specs.Fields.{many, size_of}
 use Rattle.reader.specs.LittleEndian.{value}
@@ -16,9 +15,9 @@ loop-number-init g c = record {
 
 pub returns-in_err-number-clause-took : goal.returns-in_err-number-clause-took
 returns-in_err-number-clause-took g c =
-    let p = err_from_is_err_and c.from_residual.result c.from_residual.ensures.1 in
     let s : Stream = g.R.Reader.means c.args.reader.now in
-    rw (p.1, p.2) (run_stop c.loop-number.number-index _ g.row.N c.in_err-number.field-0.0 s (g.R.Reader.means c.loop-number.reader) (g.R.Reader.means c.read_number.new.reader) c.loop-number.invariant.took c.in_err-number.ensures.took (omega arith))
+    let h = run_stop c.loop-number.number-index (length c.args.room.now) g.row.N c.in_err-number.field-0.0 s (g.R.Reader.means c.loop-number.reader) (g.R.Reader.means c.read_number.new.reader) c.loop-number.invariant.took c.in_err-number.ensures.took (omega arith) in
+    search rules
 
 pub loop-number-preserved : goal.loop-number-preserved
 loop-number-preserved g c =
