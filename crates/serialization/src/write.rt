@@ -1,5 +1,5 @@
 // Writing an image into lent bytes.
-ghost use Rattle.std.specs.Prelude.{◌≡◌, ℕ, ◌+◌, ◌*◌, ◌<◌, ◌≤◌, Bool, ◌&&◌, List, [], ◌∷◌, ◌++◌, length, take, drop, replicate, is_some, if◌then◌else◌, Some, None};
+ghost use Rattle.std.specs.Prelude.{◌≡◌, ℕ, ◌+◌, ◌*◌, ◌<◌, ◌≤◌, Bool, ◌&&◌, List, [], ◌∷◌, ◌++◌, length, take, drop, replicate, is_some, IsSome, IfSome, ◌↔◌, if◌then◌else◌, Some, None};
 ghost use Rattle.packing.specs.Gathered.{gather};
 ghost use Rattle.packing.specs.Meaning.{k1of, kdof, len_of};
 ghost use Rattle.packing.specs.Packed.{needed, quarter};
@@ -25,6 +25,17 @@ struct Packed<'a> {
 }
 
 impl<'a> Packed<'a> {
+    // The set, where the words are all there.
+    fn new(numbers: Numbers, words: &'a [u64]) -> Option<Packed<'a>>
+        ensures there { IsSome result ↔ (needed (k1of numbers) (kdof numbers) numbers.n numbers.d ≤ length words.now) }
+        ensures parts { IfSome result (λ set. (set.numbers ≡ numbers) × (set.words.now ≡ words.now)) }
+    {
+        if words.len() < words_needed(numbers.config, numbers.n, numbers.d) {
+            return None;
+        }
+        Some(Packed { numbers, words })
+    }
+
     // The words of the level-1 masks.
     fn mask_words(&self) -> &'a [u64]
         ensures is { result.now ≡ take (len_of self.now.numbers) self.now.words.now }
@@ -161,15 +172,11 @@ pub fn write_image(buffer: &mut [u8], numbers: &Numbers, words: &[u64]) -> Optio
     ensures answer { result ≡ (if writable numbers.now words.now (length buffer.old) then Some (length_of numbers.now) else None) }
     ensures wrote { Written (is_some result) (image_of numbers.now words.now) (length_of numbers.now) buffer.old buffer.new }
 {
-    let all = words_needed(numbers.config, numbers.n, numbers.d);
+    let set = Packed::new(*numbers, words)?;
     let offsets = Offsets::new(numbers.config, numbers.n, numbers.d);
-    if words.len() < all || buffer.len() < offsets.len {
+    if buffer.len() < offsets.len {
         return None;
     }
-    let set = Packed {
-        numbers: *numbers,
-        words,
-    };
     let mut cursor = Cursor { buffer, at: 0 };
     cursor.put_header(numbers.n, numbers.d);
     cursor.put_level0(*numbers);
