@@ -1,5 +1,5 @@
 // Reading the fields of an image, each by one request.
-ghost use Rattle.std.specs.Prelude.{◌≡◌, ℕ, ◌+◌, ◌<◌, ◌≤◌, List, [], ◌∷◌, length, take, map};
+ghost use Rattle.std.specs.Prelude.{◌≡◌, [], ◌∷◌, length, take, map};
 ghost use Rattle.reader.specs.Fields.{Took, Gives, faulted, one, many};
 ghost use Rattle.reader.specs.LittleEndian.{value, numbers};
 ghost use Rattle.reader.specs.Streams.{after};

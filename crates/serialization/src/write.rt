@@ -1,5 +1,5 @@
 // Writing an image into lent bytes.
-ghost use Rattle.std.specs.Prelude.{◌≡◌, ℕ, ◌+◌, ◌*◌, ◌<◌, ◌≤◌, Bool, ◌&&◌, List, [], ◌∷◌, ◌++◌, length, take, drop, replicate, is_some, IsSome, IfSome, ◌↔◌, if◌then◌else◌, Some, None};
+ghost use Rattle.std.specs.Prelude.{◌≡◌, ◌+◌, ◌*◌, ◌≤◌, [], ◌∷◌, ◌++◌, length, take, drop, replicate, is_some, IsSome, IfSome, ◌↔◌, if◌then◌else◌, Some, None};
 ghost use Rattle.packing.specs.Gathered.{gather};
 ghost use Rattle.packing.specs.Meaning.{k1of, kdof, len_of};
 ghost use Rattle.packing.specs.Packed.{needed, quarter};
