@@ -1,9 +1,10 @@
 -- Fields taken one after another, and the sizes of runs put together.
-use Rattle.std.proofs.Common.{◌≡◌, ℕ, ◌+◌, ◌-◌, ◌*◌, ◌/◌, ◌<◌, ◌≤◌, leb, List, [], ◌∷◌, ◌++◌, length, Some, None, Ok, Err, Option, sym, ap, ◌∙◌, ap₂, ⊎_elim, mul-le-mul_right, add-mul, arith, length-drop}
+use Rattle.std.proofs.Common.{◌≡◌, ℕ, ◌+◌, ◌-◌, ◌*◌, ◌/◌, ◌<◌, ◌≤◌, List, [], ◌∷◌, ◌++◌, length, Some, None, Ok, Err, Option, sym, ap, ◌∙◌, ap₂, ⊎_elim, mul-le-mul_right, add-mul, arith, length-drop}
 use mathlib.Core.Path.{fun_ext}
 use native.Mathlib.Nat.{div-eq_of_lt, div-eq_of_lt-le}
 use Rattle.std.proofs.lemmas.List.{drop-drop}
-use Rattle.std.proofs.lemmas.Bool.{cond-true, cond-false, cases_lt, le-leb, lt-leb}
+use Rattle.std.proofs.lemmas.Bool.Decides.{nat_tests}
+use Rattle.std.proofs.lemmas.Bool.{cases_lt}
 use Rattle.reader.specs.declared.fault.ReadFault.{ReadFault}
 use Rattle.reader.specs.Streams.{Coming, Stream, past, after, left}
 use Rattle.reader.specs.Reads.{Reads}
@@ -47,22 +48,22 @@ size_of-one r = omega arith
 -- where there is room for the first run, its bytes are read, and the others follow
 pub whole_in : (a : ℕ) (r : Run) (rs : List Run) → bytes_of r ≤ a → whole a (r ∷ rs) ≡ bytes_of r + whole (a - bytes_of r) rs
 unfolding whole
-whole_in a r rs h = cond-true (leb (bytes_of r) a) (bytes_of r + whole (a - bytes_of r) rs) (a / r.size * r.size) (le-leb (bytes_of r) a h)
+whole_in a r rs h = grind (arith, nat_tests)
 
 -- where there is none, the fields of it that are whole are read
 pub whole_out : (a : ℕ) (r : Run) (rs : List Run) → a < bytes_of r → whole a (r ∷ rs) ≡ a / r.size * r.size
 unfolding whole
-whole_out a r rs h = cond-false (leb (bytes_of r) a) (bytes_of r + whole (a - bytes_of r) rs) (a / r.size * r.size) (lt-leb (bytes_of r) a h)
+whole_out a r rs h = grind (arith, nat_tests)
 
 -- where there is room for the first run, the edge lies behind it
 pub edge_in : (a : ℕ) (r : Run) (rs : List Run) → bytes_of r ≤ a → edge a (r ∷ rs) ≡ bytes_of r + edge (a - bytes_of r) rs
 unfolding edge
-edge_in a r rs h = cond-true (leb (bytes_of r) a) (bytes_of r + edge (a - bytes_of r) rs) (a / r.size * r.size + r.size) (le-leb (bytes_of r) a h)
+edge_in a r rs h = grind (arith, nat_tests)
 
 -- where there is none, it lies behind one field more than are whole
 pub edge_out : (a : ℕ) (r : Run) (rs : List Run) → a < bytes_of r → edge a (r ∷ rs) ≡ a / r.size * r.size + r.size
 unfolding edge
-edge_out a r rs h = cond-false (leb (bytes_of r) a) (bytes_of r + edge (a - bytes_of r) rs) (a / r.size * r.size + r.size) (lt-leb (bytes_of r) a h)
+edge_out a r rs h = grind (arith, nat_tests)
 
 -- a count of runs that goes into the first of them where there is room, and stops at the first that has none
 module _ (f : ℕ → List Run → ℕ) (into : (a : ℕ) (r : Run) (rs : List Run) → bytes_of r ≤ a → f a (r ∷ rs) ≡ bytes_of r + f (a - bytes_of r) rs) where

@@ -88,10 +88,19 @@ numbers_add k (suc a) b xs =
     ap (λ (n : ℕ). numbers k n xs) (suc-add a b) ∙ ap (λ (ys : List ℕ). value (take k xs) ∷ ys) (numbers_add k a b (drop k xs))
     ∙ ap (λ (ys : List ℕ). numbers k (suc a) xs ++ numbers k b ys) (drop_more k a xs)
 
+-- no numbers
+pub numbers_none : (k : ℕ) (xs : List ℕ) → numbers k 0 xs ≡ []
+unfolding numbers
+numbers_none k xs = refl
+
 -- one number
 pub numbers-one : (k : ℕ) (xs : List ℕ) → numbers k 1 xs ≡ value (take k xs) ∷ []
 unfolding numbers
 numbers-one k xs = refl
+
+-- one number more
+pub numbers_more : (k c : ℕ) (xs : List ℕ) → numbers k (c + 1) xs ≡ numbers k c xs ++ value (take k (drop (c * k) xs)) ∷ []
+numbers_more k c xs = numbers_add k c 1 xs ∙ ap (λ (ys : List ℕ). numbers k c xs ++ ys) (numbers-one k (drop (c * k) xs))
 
 -- number m
 pub get_or-numbers : (k c : ℕ) (xs : List ℕ) (m : ℕ) → m < c → get_or (numbers k c xs) m 0 ≡ value (take k (drop (m * k) xs))
@@ -99,6 +108,13 @@ unfolding numbers
 get_or-numbers k zero xs m h = absurd (omega arith)
 get_or-numbers k (suc c) xs zero h = ap (λ (ys : List ℕ). value (take k ys)) (drop-none k xs)
 get_or-numbers k (suc c) xs (suc m) h = get_or-numbers k c (drop k xs) m (omega arith) ∙ ap (λ (ys : List ℕ). value (take k ys)) (drop_more k m xs)
+
+-- numbers of one byte each are the bytes
+pub numbers_bytes : (c : ℕ) (xs : List ℕ) → c ≤ length xs → numbers 1 c xs ≡ take c xs
+unfolding numbers value
+numbers_bytes zero xs h = refl
+numbers_bytes (suc c) [] h = absurd (omega (arith, h))
+numbers_bytes (suc c) (x ∷ xs) h = let e : x + 256 * 0 ≡ x = omega arith in ap₂ (λ (y : ℕ) (ys : List ℕ). y ∷ ys) e (numbers_bytes c xs (omega (arith, h)))
 
 -- numbers that fit are what their bytes say, whatever follows
 pub numbers-laid : (k : ℕ) (ys rest : List ℕ) → ((t : ℕ) → get_or ys t 0 < 256 ^ k) → numbers k (length ys) (laid k ys ++ rest) ≡ ys
@@ -130,7 +146,12 @@ numbers-take k (suc c) n xs h =
     ap₂ (λ (ys zs : List ℕ). value ys ∷ numbers k c zs) (take-take k n xs l) d
     ∙ ap (λ (ys : List ℕ). value (take k xs) ∷ ys) (numbers-take k c (n - k) (drop k xs) (omega (arith, suc-mul c k)))
 
--- what to_le_bytes gives of 16 bits
+-- what to_le_bytes gives of 8 bits
+pub le_bytes_1 : (x : ℕ) → x < 256 → x ∷ [] ≡ bytes 1 x
+unfolding bytes
+le_bytes_1 x h = ap (λ (y : ℕ). y ∷ []) (sym (mod-eq_of_lt h))
+
+-- of 16 bits
 pub le_bytes_2 : (x : ℕ) → (x % 256) ∷ (x / 256 % 256) ∷ [] ≡ bytes 2 x
 unfolding bytes
 le_bytes_2 x = refl
@@ -177,7 +198,11 @@ value_end : (xs : List ℕ) (n : ℕ) → length xs ≡ n → value (drop n xs) 
 unfolding value
 value_end xs n e = ap value (drop_all n xs (omega (arith, e)))
 
--- what from_le_bytes gives of 16 bits
+-- what from_le_bytes gives of 8 bits
+pub value_1 : (xs : List ℕ) → length xs ≡ 1 → get_or xs 0 0 ≡ value xs
+value_1 xs e = omega (arith, value_at xs 0, value_end xs 1 e)
+
+-- of 16 bits
 pub value_2 : (xs : List ℕ) → length xs ≡ 2 → get_or xs 0 0 + get_or xs 1 0 * 256 ≡ value xs
 value_2 xs e = omega (arith, value_at xs 0, value_at xs 1, value_end xs 2 e)
 

@@ -1,23 +1,16 @@
 -- Bytes taken from a reader.
-use Rattle.std.proofs.Common.{◌≡◌, ℕ, ◌+◌, ◌-◌, ◌<◌, ◌≤◌, Bool, cond, ltb, List, length, take, drop, sym, ap, ◌∙◌, ap₂, ⊎_elim, arith, length-drop}
+use Rattle.std.proofs.Common.{◌≡◌, ℕ, ◌+◌, ◌-◌, ◌≤◌, Bool, cond, ltb, List, take, drop, sym, ap, ◌∙◌, ap₂, arith}
 use mathlib.Core.Path.{fun_ext}
-use Rattle.std.proofs.lemmas.List.{drop-take, take_all}
-use Rattle.std.proofs.lemmas.Bool.{cases_lt, lt-ltb, le-ltb}
+use Rattle.std.proofs.lemmas.List.{drop-take}
+use Rattle.std.proofs.lemmas.Bool.Decides.{nat_tests}
 use Rattle.reader.specs.declared.fault.ReadFault.{ReadFault}
 use Rattle.reader.specs.declared.fault.ReadFault.TheVariants.{Short}
 use Rattle.reader.specs.Streams.{Coming, past}
 use Rattle.reader.specs.Reads.{limited}
 
--- what is left of a slice behind its first n bytes
-pub rest_is : (n : ℕ) (xs : List ℕ) → take (length xs - n) (drop n xs) ≡ drop n xs
-rest_is n xs = take_all (length xs - n) (drop n xs) (omega (arith, length-drop n xs))
-
 -- a limit behind its first n bytes
 limit_tests : (m n k : ℕ) → n ≤ m → ltb (m - n) k ≡ ltb m (n + k)
-limit_tests m n k h =
-    ⊎_elim (λ (l : m < n + k). lt-ltb (m - n) k (omega arith) ∙ sym (lt-ltb m (n + k) l))
-    (λ (g : n + k ≤ m). le-ltb (m - n) k (omega arith) ∙ sym (le-ltb m (n + k) g))
-    (cases_lt m (n + k))
+limit_tests m n k h = grind (arith, nat_tests)
 
 pub past-limited : (m n : ℕ) (c : Coming) → n ≤ m → limited (m - n) (past n c) ≡ past n (limited m c)
 past-limited m n c h =

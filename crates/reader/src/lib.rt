@@ -2,6 +2,7 @@
 #![tactic(auto)]
 
 pub mod fault;
+pub mod little_endian;
 
 ghost use Rattle.std.specs.Prelude.{◌≡◌, ℕ, List, [], ◌∷◌};
 ghost use Rattle.reader.specs.Streams.{Stream};
@@ -23,12 +24,11 @@ impl Reader for &[u8] {
     ghost means = { λ s. alone (slice s.now) [] };
 
     fn read_exact(&mut self, buf: &mut [u8]) -> Result<(), ReadFault> {
-        let n = buf.len();
-        if self.len() < n {
+        let Some((front, rest)) = self.split_at_checked(buf.len()) else {
             return Err(ReadFault::Short);
-        }
-        buf.copy_from_slice(&self[..n]);
-        *self = &self[n..];
+        };
+        buf.copy_from_slice(front);
+        *self = rest;
         Ok(())
     }
 }
@@ -60,10 +60,9 @@ impl Reader for Device<'_> {
     ghost means = { λ s. alone (device s.rest.now s.code) [] };
 
     fn read_exact(&mut self, buf: &mut [u8]) -> Result<(), ReadFault> {
-        match self.rest.read_exact(buf) {
-            Ok(()) => Ok(()),
-            Err(_) => Err(ReadFault::Device(self.code)),
-        }
+        self.rest
+            .read_exact(buf)
+            .map_err(|_| ReadFault::Device(self.code))
     }
 }
 
@@ -86,8 +85,7 @@ impl<R: Reader> Limit<R> {
     pub fn into_inner(self) -> R
         ensures { result ≡ self.inner }
     {
-        let Limit { inner, left: _ } = self;
-        inner
+        self.inner
     }
 }
 

@@ -1,7 +1,6 @@
 -- An image has the length that its numbers say, and what it stores can be read back.
-use Rattle.std.proofs.Common.{◌≡◌, ℕ, ◌+◌, ◌*◌, ◌^◌, ◌<◌, List, [], ◌++◌, length, get_or, take, drop, sym, ap, ◌∙◌, ap₂, mul_assoc, arith}
+use Rattle.std.proofs.Common.{◌≡◌, ℕ, ◌+◌, ◌*◌, ◌^◌, ◌<◌, List, [], ◌++◌, length, get_or, take, drop, sym, ap, ◌∙◌, ap₂, arith}
 use Rattle.std.proofs.lemmas.List.{append_assoc, append-nil, length-append, length-replicate, take_at, drop_at}
-use Rattle.bit_block.specs.declared.config.Width.{Width}
 use Rattle.bit_block.specs.declared.config.Config.{Config}
 use Rattle.reader.specs.LittleEndian.{bytes, value, laid, numbers}
 use Rattle.reader.proofs.LittleEndians.{length-bytes, value-bytes, length-laid, numbers-laid}
@@ -9,7 +8,7 @@ use Rattle.serialization.specs.Layout.{size, words, padding, header_size, level0
 use Rattle.serialization.specs.Stored.{Stored}
 use Rattle.serialization.specs.Image.{version, zeros, header, image, version_in, n_in, d_in, reading}
 use Rattle.serialization.specs.Shapes.{Shaped, Bounded}
-use Rattle.serialization.proofs.Lengths.{size-words}
+use Rattle.serialization.proofs.Lengths.{size-words, length_masks}
 
 -- the parts of an image, cut behind the header, before each part that is read, and at the end
 module _ (h z0 t s0 z1 r s1 z2 b rest : List ℕ) where
@@ -40,10 +39,6 @@ module _ (h z0 t s0 z1 r s1 z2 b rest : List ℕ) where
 -- one part more
 longer : (xs ys : List ℕ) (m k : ℕ) → length xs ≡ m → length ys ≡ k → length (xs ++ ys) ≡ m + k
 longer xs ys m k d e = length-append xs ys ∙ ap₂ ◌+◌ d e
-
--- the words of m masks
-length_masks : (w : Width) (m : ℕ) (xs : List ℕ) → length xs ≡ m * words w → length (laid 8 xs) ≡ m * size w
-length_masks w m xs e = length-laid 8 xs ∙ ap (λ (k : ℕ). k * 8) e ∙ mul_assoc m (words w) 8 ∙ ap (λ (k : ℕ). m * k) (sym (size-words w))
 
 -- version and n
 length_counts : (n : ℕ) → length (bytes 2 version ++ bytes 2 n) ≡ 4

@@ -1,10 +1,12 @@
 -- How many bytes the fields of an image have.
-use Rattle.std.proofs.Common.{◌≡◌, ℕ, ◌+◌, ◌*◌, ◌++◌, sym, refl, ap, ◌∙◌, mul_assoc, arith}
+use Rattle.std.proofs.Common.{◌≡◌, ℕ, ◌+◌, ◌*◌, List, ◌++◌, length, sym, refl, ap, ◌∙◌, mul_assoc, arith}
 use Rattle.bit_block.specs.declared.config.Width.{Width}
 use Rattle.bit_block.specs.declared.config.Width.TheVariants.{W64, W128, W256}
 use Rattle.bit_block.specs.declared.config.Config.{Config}
 use Rattle.reader.specs.Fields.{size_of}
+use Rattle.reader.specs.LittleEndian.{laid}
 use Rattle.reader.proofs.Fieldings.{size_of-append}
+use Rattle.reader.proofs.LittleEndians.{length-laid}
 use Rattle.serialization.specs.Layout.{size, words, image_length, level1_at, header_fields, top_fields, rest_fields, all_fields}
 
 -- a mask has 8 bytes for each of its words
@@ -36,3 +38,7 @@ sizes c n d =
 -- so many masks have 8 bytes for each of their words
 pub masks-words : (w : Width) (n : ℕ) → n * size w ≡ n * words w * 8
 masks-words w n = ap (λ (k : ℕ). n * k) (size-words w) ∙ sym (mul_assoc n (words w) 8)
+
+-- and those are their bytes
+pub length_masks : (w : Width) (n : ℕ) (xs : List ℕ) → length xs ≡ n * words w → length (laid 8 xs) ≡ n * size w
+length_masks w n xs e = omega (arith, e, length-laid 8 xs, masks-words w n)

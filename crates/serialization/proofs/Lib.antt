@@ -1,7 +1,6 @@
 pub mod Requests
 pub mod Puts
 pub mod Headers
-pub mod StartWords
 pub mod Lengths
 pub mod Imaging
 pub mod Laying

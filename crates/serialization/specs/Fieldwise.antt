@@ -1,7 +1,8 @@
 -- What the fields of an image give, read one after another.
-use Rattle.std.specs.Prelude.{◌≡◌, ℕ, ◌+◌, ◌-◌, ◌*◌, cond, List, ◌++◌, take, drop, replicate, nat_lt, slice_index}
+use Rattle.std.specs.Prelude.{◌≡◌, ℕ, ◌+◌, ◌-◌, cond, List, ◌++◌, take, drop, replicate, nat_lt}
 use Rattle.bit_block.specs.declared.config.Width.{Width}
 use Rattle.bit_block.specs.declared.config.Config.{Config}
+pub use Rattle.packing.specs.StartWords.{four_of}
 use Rattle.packing.specs.declared.Numbers.{Numbers}
 use Rattle.reader.specs.LittleEndian.{numbers}
 use Rattle.serialization.specs.Layout.{size, words, padding, header_size}
@@ -10,10 +11,6 @@ use Rattle.serialization.specs.declared.fields.Header.{Header}
 -- a mask of so many words from these bytes, its other words 0
 abbrev pub mask_in : Width → List ℕ → List ℕ
 mask_in w xs = numbers 8 (words w) xs ++ replicate (4 - words w) 0
-
--- four starts in a word, the first in the most significant bits
-abbrev pub four_of : List ℕ → ℕ
-four_of xs = ((slice_index xs 0 * 65536 + slice_index xs 1) * 65536 + slice_index xs 2) * 65536 + slice_index xs 3
 
 -- the lesser of two numbers
 abbrev pub least : ℕ → ℕ → ℕ

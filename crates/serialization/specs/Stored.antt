@@ -1,7 +1,8 @@
 -- What an image stores: its numbers, and the words and starts of each level.
-use Rattle.std.specs.Prelude.{ℕ, ◌+◌, ◌-◌, ◌*◌, ◌/◌, ◌%◌, ◌^◌, List, [], ◌∷◌, take, drop, slice_index}
+use Rattle.std.specs.Prelude.{ℕ, ◌+◌, ◌*◌, ◌/◌, List, [], ◌∷◌, take, drop, slice_index}
 use Rattle.bit_block.specs.Widths.{bits}
 use Rattle.packing.specs.Gathered.{gather}
+use Rattle.packing.specs.StartWords.{field_in}
 use Rattle.packing.specs.Packed.{quarter}
 use Rattle.packing.specs.Meaning.{kdof, len_of}
 use Rattle.packing.specs.declared.Numbers.{Numbers}
@@ -17,7 +18,7 @@ pub record Stored : Type 0 where
 
 -- start m of those that stand four to a word, the first in the most significant bits
 abbrev pub field_at : List ℕ → ℕ → ℕ
-field_at ws m = slice_index ws (m / 4) / 2 ^ (48 - 16 * (m % 4)) % 65536
+field_at ws m = field_in (slice_index ws (m / 4)) m
 
 -- what a set of these numbers and words stores
 abbrev pub stored : Numbers → List ℕ → Stored

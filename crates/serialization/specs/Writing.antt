@@ -7,6 +7,12 @@ use Rattle.packing.specs.Wrote.{Wrote}
 use Rattle.serialization.specs.Image.{image}
 use Rattle.serialization.specs.Layout.{image_length}
 use Rattle.serialization.specs.Stored.{stored}
+use Rattle.serialization.specs.declared.write.Cursor.{Cursor}
+
+-- the bytes ys were put into lent bytes, from their place on
+pub record Puts (old new : Cursor) (ys : List ℕ) : Type 0 where
+  pub lender : new.buffer.ghost_name ≡ old.buffer.ghost_name
+  pub wrote : Wrote old.buffer.now new.buffer.now old.at ys new.at
 
 -- the image of a set, and its length
 abbrev pub image_of : Numbers → List ℕ → List ℕ

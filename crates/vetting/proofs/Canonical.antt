@@ -1,8 +1,8 @@
 -- Sets of one configuration that hold the same positions have the same numbers and words.
-use Rattle.std.proofs.Common.{◌≡◌, ℕ, ◌+◌, ◌-◌, ◌*◌, ◌/◌, ◌%◌, ◌<◌, ◌≤◌, Bool, true, List, length, get_or, take, Some, sym, refl, ap, ◌∙◌, subst, ap₂, ⊎_elim, arith}
+use Rattle.std.proofs.Common.{◌≡◌, ℕ, ◌+◌, ◌-◌, ◌*◌, ◌/◌, ◌%◌, ◌<◌, ◌≤◌, Bool, true, List, length, get_or, take, Some, sym, refl, ap, ◌∙◌, subst, ap₂, arith}
 use mathlib.Core.Path.{fun_ext}
 use Rattle.std.proofs.lemmas.Nat.{div_below, mod_below, div-add-mod'}
-use Rattle.std.proofs.lemmas.Bool.{cases_Bool, cases_lt}
+use Rattle.std.proofs.lemmas.Bool.Decides.{nat_tests}
 use Rattle.bit_block.specs.Bit.{bit_of}
 use Rattle.bit_block.specs.Raised.{raised}
 use Rattle.bit_block.specs.Ranges.{count}
@@ -10,7 +10,6 @@ use Rattle.bit_block.specs.Widths.{bits}
 use Rattle.bit_block.specs.declared.config.Config.{Config}
 use Rattle.bitset_interface.specs.Source.{Source, Lawful}
 use Rattle.bitset_interface.proofs.Positions.{same_bits}
-use Rattle.bitset_interface.proofs.Rows.{off}
 use Rattle.packing.specs.declared.Numbers.{Numbers}
 use Rattle.packing.specs.Meaning.{k1of, kdof, len_of, held_at, block_place, up_at, Sound}
 use Rattle.packing.specs.Packed.{before, four, quarter, needed}
@@ -26,7 +25,7 @@ use Rattle.vetting.proofs.Stores.{up_bit}
 
 -- Bools that imply each other are equal
 each_way : (p q : Bool) → (p ≡ true → q ≡ true) → (q ≡ true → p ≡ true) → p ≡ q
-each_way p q f g = ⊎_elim (λ e. e ∙ sym (f e)) (λ e. e ∙ sym (off q p g e)) (cases_Bool p)
+each_way p q f g = grind (arith, nat_tests)
 
 -- trusted sources with the same data bits raise the same upper bits
 module _ (s t : Source) (ls : Lawful s) (lt : Lawful t) (ts : s.trust ≡ true) (tt' : t.trust ≡ true)
@@ -163,13 +162,7 @@ module _ (m : Numbers) (ws : List ℕ) (k : Numbers) (vs : List ℕ) (fm : Words
 
   -- level-1 words, starts, data
   all_words : (x : ℕ) → x < needed (k1of m) (kdof m) m.n m.d → get_or ws x 0 ≡ get_or vs x 0
-  all_words x l =
-      ⊎_elim (λ a. row_words x a)
-      (λ a. ⊎_elim
-      (λ b. subst (λ (z : ℕ). get_or ws z 0 ≡ get_or vs z 0) (let e : len_of m + (x - len_of m) ≡ x = omega arith in e) (start_words_lem (x - len_of m) (omega arith)))
-      (λ b. subst (λ (z : ℕ). get_or ws z 0 ≡ get_or vs z 0) (let e : Q + (x - Q) ≡ x = omega arith in e) (data_words_lem (x - Q) (omega arith)))
-      (cases_lt x Q))
-      (cases_lt x (len_of m))
+  all_words x l = let a = row_words x in let b = start_words_lem (x - len_of m) in let d = data_words_lem (x - Q) in grind (arith, nat_tests, a, b, d)
 
   -- the level-0 starts are the same
   starts : (q : ℕ) → get_or m.starts q 0 ≡ get_or k.starts q 0

@@ -1,8 +1,8 @@
 -- What a set stores keeps the rules.
-use Rattle.std.proofs.Common.{◌≡◌, ℕ, ◌+◌, ◌-◌, ◌*◌, ◌/◌, ◌%◌, ◌^◌, ◌<◌, ◌≤◌, false, List, length, get_or, take, drop, None, sym, ap, ◌∙◌, subst, ⊎_elim, arith}
+use Rattle.std.proofs.Common.{◌≡◌, ℕ, ◌+◌, ◌-◌, ◌*◌, ◌/◌, ◌%◌, ◌^◌, ◌<◌, ◌≤◌, false, List, length, get_or, take, drop, None, sym, ap, ◌∙◌, subst, arith}
 use Rattle.std.proofs.lemmas.Nat.{mod_below}
 use Rattle.std.proofs.lemmas.List.{length-take-le, get_or-drop}
-use Rattle.std.proofs.lemmas.Bool.{cases_Bool}
+use Rattle.std.proofs.lemmas.Bool.{false_from_ne_true}
 use Rattle.bit_block.specs.Raised.{raised}
 use Rattle.bit_block.specs.Ranges.{count}
 use Rattle.bit_block.specs.Widths.{bits}
@@ -23,7 +23,7 @@ use Rattle.vetting.proofs.Stores.{top_all, top_start, row_count, block_count_lem
 module _ (m : Numbers) (ws : List ℕ) (fits : Words64 ws) (s : Sound m ws) where
   -- no level-0 bit is raised past the width
   past : (t : ℕ) → bits m.config.level0 ≤ t → raised m.level0 t ≡ false
-  past t l = ⊎_elim (λ up. absurd (omega (arith, s.wide t up))) (λ e. e) (cases_Bool (raised m.level0 t))
+  past t l = false_from_ne_true (raised m.level0 t) (λ up. omega (arith, s.wide t up))
 
   -- the mask of rank r, by the row that has it
   row_held : (r : ℕ) → r < m.n → 0 < count (λ t. bit_in (stored m ws).rows (r * bits m.config.level1 + t)) (bits m.config.level1)

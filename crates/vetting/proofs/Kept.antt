@@ -1,7 +1,8 @@
 -- What keeps the rules of what is stored is a set.
 use Rattle.std.proofs.Common.{◌≡◌, ℕ, ◌+◌, ◌-◌, ◌*◌, ◌/◌, ◌%◌, ◌^◌, ◌<◌, ◌≤◌, true, false, ltb, List, length, get_or, take, drop, None, sym, ap, ◌∙◌, subst, ap₂, ⊎_elim, arith}
 use Rattle.std.proofs.lemmas.List.{length-take-le, get_or-drop, get_or_past}
-use Rattle.std.proofs.lemmas.Bool.{le-ltb, cond-false, cases_lt, both_ways}
+use Rattle.std.proofs.lemmas.Bool.Decides.{nat_tests}
+use Rattle.std.proofs.lemmas.Bool.{le-ltb, cond-false, cases_lt}
 use Rattle.bit_block.specs.Raised.{raised}
 use Rattle.bit_block.specs.Ranges.{count}
 use Rattle.bit_block.specs.Widths.{bits}
@@ -41,7 +42,7 @@ module _ (m : Numbers) (ws : List ℕ) (fits : Words64 ws) (eight : length m.sta
 
   -- and none of them is past the width
   wide : Wide m
-  wide i up = ⊎_elim (λ l. l) (λ l. absurd (both_ways (raised m.level0 i) (past i l) up)) (cases_lt i (bits m.config.level0))
+  wide i up = let p = past i in grind (arith, nat_tests, p)
 
   -- a raised row is below 256
   below : (i : ℕ) → raised m.level0 i ≡ true → i < 256
@@ -80,7 +81,10 @@ module _ (m : Numbers) (ws : List ℕ) (fits : Words64 ws) (eight : length m.sta
   -- each start, and each field past the last, is as defined
   field : (x : ℕ) → x < 4 * quarter (len_of m) → field_at (drop (len_of m) ws) x ≡ start (take (len_of m) ws) x
   field x h =
-      ⊎_elim (λ l. start_at x l) (λ l. fields x l h ∙ sym (start-past (take (len_of m) ws) x (omega (arith, long)))) (cases_lt x (len_of m))
+      let a = start_at x in
+      let b = λ (l : len_of m ≤ x). fields x l h in
+      let p = start-past (take (len_of m) ws) x in
+      grind (arith, nat_tests, a, b, p, long)
 
   module _ (q : ℕ) (l : q < quarter (len_of m)) where
     -- field e of word q is start 4 q + e

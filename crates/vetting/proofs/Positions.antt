@@ -1,20 +1,21 @@
 -- Sets with the same numbers and words hold the same positions.
 use Rattle.std.proofs.Common.{◌≡◌, ℕ, ◌+◌, ◌*◌, ◌/◌, ◌%◌, ◌<◌, ◌≤◌, Bool, true, ◌&&◌, ltb, List, get_or, Some, Option, sym, ap, ◌∙◌, ap₂, ⊎_elim, mul-le-mul_right, add-mul, arith}
 use mathlib.Core.Path.{fun_ext}
-use Rattle.std.proofs.lemmas.Bool.{and_left, cases_Bool, cases_lt}
+use Rattle.std.proofs.lemmas.Bool.Decides.{nat_tests}
+use Rattle.std.proofs.lemmas.Bool.{cases_lt}
 use Rattle.bit_block.specs.Bit.{bit_of}
 use Rattle.bit_block.specs.Raised.{raised}
 use Rattle.bit_block.specs.Widths.{capacity, index0, index1, index_d}
 use Rattle.bit_block.specs.declared.config.Config.{Config}
 use Rattle.bit_block.proofs.Places.{sized}
 use Rattle.packing.specs.declared.Numbers.{Numbers}
-use Rattle.packing.specs.Meaning.{k1of, kdof, len_of, word_place, held_at, rank, block_place, bit_from, up_at, Sound}
+use Rattle.packing.specs.Meaning.{k1of, kdof, len_of, word_place, held_at, rank, block_place, up_at, Sound}
 use Rattle.packing.specs.Packed.{needed}
-use Rattle.packing.proofs.Lookups.{len_fits, place_lt, rank_lt, not_row, not_wide}
+use Rattle.packing.proofs.Lookups.{len_fits, place_lt, rank_lt}
 use Rattle.vetting.specs.Reloads.{Words64, SamePositions}
 use Rattle.vetting.specs.Same.{SameSet}
 use Rattle.vetting.proofs.Agree.{k1-same, kd-same, place_same, len_same, block_same}
-use Rattle.vetting.proofs.Stores.{held_bit, held_parts, up_bit, up_wide}
+use Rattle.vetting.proofs.Stores.{held_parts, up_bit, up_wide}
 
 module _ (m : Numbers) (ws : List ℕ) (k : Numbers) (vs : List ℕ) (fm : Words64 ws)
     (sm : Sound m ws) (sk : Sound k vs) (conf : m.config ≡ k.config) (s : SameSet m ws k vs) where
@@ -40,17 +41,10 @@ module _ (m : Numbers) (ws : List ℕ) (k : Numbers) (vs : List ℕ) (fm : Words
 
   -- the same blocks are stored
   held : (i j : ℕ) → held_at m ws i j ≡ held_at k vs i j
+  unfolding held_at
   held i j =
-      ⊎_elim
-      (λ up. ⊎_elim
-      (λ l.
-      held_bit m ws i j up l
-      ∙ ap (λ (x : ℕ). bit_of x (j % 64)) (row_words (word_place m i j) (place_in i j up l) ∙ ap (λ (y : ℕ). get_or vs y 0) (place_same m k conf s.top i j))
-      ∙ sym (held_bit k vs i j (sym (s.top i) ∙ up) (omega (arith, e1))))
-      (λ l. not_wide m ws i j l ∙ sym (not_wide k vs i j (omega (arith, e1))))
-      (cases_lt j (k1of m * 64)))
-      (λ no. not_row m ws i j no ∙ sym (not_row k vs i j (sym (s.top i) ∙ no)))
-      (cases_Bool (raised m.level0 i))
+      let w = λ (u : raised m.level0 i ≡ true) (l : j < k1of m * 64). row_words (word_place m i j) (place_in i j u l) ∙ ap (λ (y : ℕ). get_or vs y 0) (place_same m k conf s.top i j) in
+      grind (arith, nat_tests, w, s.top i, e1)
 
   module _ (i j : ℕ) (h : held_at m ws i j ≡ true) where
     -- the words of a stored block are in use
@@ -80,12 +74,7 @@ module _ (m : Numbers) (ws : List ℕ) (k : Numbers) (vs : List ℕ) (fm : Words
   -- with the same bits
   up : (i j t : ℕ) → up_at m ws i j t ≡ up_at k vs i j t
   up i j t =
-      ⊎_elim
-      (λ l. ⊎_elim
-      (λ h. up_held i j h t l)
-      (λ no. and_left (held_at m ws i j) (bit_from ws (block_place m ws i j) (kdof m) t) no
-      ∙ sym (and_left (held_at k vs i j) (bit_from vs (block_place k vs i j) (kdof k) t) (sym (held i j) ∙ no)))
-      (cases_Bool (held_at m ws i j)))
+      ⊎_elim (λ l. let h = λ (e : held_at m ws i j ≡ true). up_held i j e t l in grind (arith, nat_tests, h, held i j))
       (λ l. up_wide m ws i j t l ∙ sym (up_wide k vs i j t (omega (arith, ed))))
       (cases_lt t (kdof m * 64))
 

@@ -1,7 +1,8 @@
 -- The masks that a set stores are those that its numbers and words mean.
-use Rattle.std.proofs.Common.{◌≡◌, ℕ, ◌+◌, ◌*◌, ◌/◌, ◌%◌, ◌<◌, ◌≤◌, Bool, true, false, ◌&&◌, ltb, List, get_or, drop, sym, ap, ◌∙◌, ap₂, ⊎_elim, mul-le-mul_right, mul_assoc, add-mul, arith}
+use Rattle.std.proofs.Common.{◌≡◌, ℕ, ◌+◌, ◌*◌, ◌/◌, ◌%◌, ◌<◌, ◌≤◌, Bool, true, false, ltb, List, get_or, drop, sym, ap, ◌∙◌, ap₂, mul-le-mul_right, mul_assoc, add-mul, arith}
 use Rattle.std.proofs.lemmas.List.{get_or-take, get_or-drop}
-use Rattle.std.proofs.lemmas.Bool.{and_parts, ltb-true, and_left, and_right, lt-ltb, le-ltb, cond-true, cond-false, cases_lt}
+use Rattle.std.proofs.lemmas.Bool.Decides.{nat_tests}
+use Rattle.std.proofs.lemmas.Bool.{and_parts, ltb-true}
 use Rattle.bit_block.specs.Bit.{bit_of}
 use Rattle.bit_block.specs.Raised.{raised}
 use Rattle.bit_block.specs.Ranges.{count}
@@ -42,13 +43,7 @@ module _ (m : Numbers) (ws : List ℕ) (past : (t : ℕ) → bits m.config.level
 
   -- and so the starts are the same
   pub top_start : (q : ℕ) → start0 top w q ≡ start0 (raised m.level0) w q
-  top_start q =
-      ⊎_elim
-      (λ l. cond-true (ltb (q * 64) w) (count top (q * 64)) 0 (lt-ltb (q * 64) w l) ∙ top_count (q * 64) (omega arith)
-      ∙ sym (cond-true (ltb (q * 64) w) (count (raised m.level0) (q * 64)) 0 (lt-ltb (q * 64) w l)))
-      (λ l. cond-false (ltb (q * 64) w) (count top (q * 64)) 0 (le-ltb (q * 64) w l)
-      ∙ sym (cond-false (ltb (q * 64) w) (count (raised m.level0) (q * 64)) 0 (le-ltb (q * 64) w l)))
-      (cases_lt (q * 64) w)
+  top_start q = let h = top_count (q * 64) in grind (arith, nat_tests, h)
 
 -- bit t of mask r, where a mask has k words
 mask_bit : (xs : List ℕ) (w k r t : ℕ) → w ≡ k * 64 → bit_in xs (r * w + t) ≡ bit_of (get_or xs (r * k + t / 64) 0) (t % 64)
@@ -69,9 +64,7 @@ mask_count xs f w k r e small is none =
 pub held_bit : (m : Numbers) (ws : List ℕ) (i j : ℕ) → raised m.level0 i ≡ true → j < k1of m * 64
     → held_at m ws i j ≡ bit_of (get_or ws (word_place m i j) 0) (j % 64)
 unfolding held_at
-held_bit m ws i j up l =
-    let b : Bool = bit_of (get_or ws (word_place m i j) 0) (j % 64) in
-    ap (λ (x : Bool). x && (ltb j (k1of m * 64) && b)) up ∙ ap (λ (x : Bool). x && b) (lt-ltb j (k1of m * 64) l)
+held_bit m ws i j up l = grind (arith, nat_tests)
 
 -- what is known of a block that is stored
 pub held_parts : (m : Numbers) (ws : List ℕ) (i j : ℕ) → held_at m ws i j ≡ true
@@ -85,13 +78,11 @@ held_parts m ws i j e =
 -- a bit of a block that is stored
 pub up_bit : (m : Numbers) (ws : List ℕ) (i j t : ℕ) → held_at m ws i j ≡ true → t < kdof m * 64
     → up_at m ws i j t ≡ bit_of (get_or ws (block_place m ws i j + t / 64) 0) (t % 64)
-up_bit m ws i j t up l =
-    let b : Bool = bit_of (get_or ws (block_place m ws i j + t / 64) 0) (t % 64) in
-    ap (λ (x : Bool). x && (ltb t (kdof m * 64) && b)) up ∙ ap (λ (x : Bool). x && b) (lt-ltb t (kdof m * 64) l)
+up_bit m ws i j t up l = grind (arith, nat_tests)
 
 -- no bit of a block is raised past its width
 pub up_wide : (m : Numbers) (ws : List ℕ) (i j t : ℕ) → kdof m * 64 ≤ t → up_at m ws i j t ≡ false
-up_wide m ws i j t l = and_right (held_at m ws i j) _ (and_left (ltb t (kdof m * 64)) _ (le-ltb t (kdof m * 64) l))
+up_wide m ws i j t l = grind (arith, nat_tests)
 
 module _ (m : Numbers) (ws : List ℕ) (rows : Rows m) (counts : Counts m ws) where
   -- row i counts as the mask that is stored for it

@@ -1,23 +1,22 @@
-use Rattle.std.proofs.Common.{◌≡◌, ℕ, ◌-◌, List, [], ◌∷◌, ◌++◌, length, take, drop, replicate, ap, ◌∙◌, ap₂, arith}
+use Rattle.std.proofs.Common.{◌≡◌, ℕ, ◌-◌, List, ◌++◌, length, take, drop, replicate, ap, ◌∙◌, ap₂, arith}
 use Rattle.std.proofs.lemmas.List.{length-take-le}
 use Rattle.std.proofs.lemmas.Result.{err_from_is_err_and}
 use Rattle.bit_block.specs.declared.config.Width.{Width}
 use Rattle.reader.specs.Streams.{Stream}
-use Rattle.reader.specs.LittleEndian.{value}
 use Rattle.reader.proofs.Fieldings.{took_one, took_not}
 use Rattle.serialization.specs.Layout.{size}
-use Rattle.serialization.proofs.Requests.{four-words, mask_is, zeros_behind}
+use Rattle.serialization.proofs.Requests.{mask_is, zeros_behind}
 use Rattle.serialization.proofs.fields.read_mask.Goals as goal
 
-pub returns-in_err-read_exact : goal.returns-in_err-read_exact
-returns-in_err-read_exact g c =
+pub returns-in_err-read_exact-clause-took : goal.returns-in_err-read_exact-clause-took
+returns-in_err-read_exact-clause-took g c =
     let p = err_from_is_err_and c.from_residual.result c.from_residual.ensures.1 in
     let s : Stream = g.R.Reader.means c.args.reader.now in
     let t : Stream = g.R.Reader.means c.read_exact.new.self in
     let k : ℕ = c.mask_size.result in
     let f = c.in_err-read_exact.field-0.0 in
     let l : length (take k (replicate 32 0)) ≡ size c.args.width = length-take-le k (replicate 32 0) (omega (arith, c.mask_size.ensures.small)) ∙ c.mask_size.ensures.is in
-    rw (p.1, p.2) (record { took = took_not (size c.args.width) s t (take k (replicate 32 0)) c.read_exact.new.buf f l c.in_err-read_exact.ensures; gives = tt })
+    rw (p.1, p.2) (took_not (size c.args.width) s t (take k (replicate 32 0)) c.read_exact.new.buf f l c.in_err-read_exact.ensures)
 
 pub returns : goal.returns
 returns g c =
@@ -30,9 +29,7 @@ returns g c =
     let l : length (take k (replicate 32 0)) ≡ size w = length-take-le k (replicate 32 0) (omega (arith, c.mask_size.ensures.small)) ∙ c.mask_size.ensures.is in
     let b : List ℕ = buf ++ drop k (replicate 32 0) in
     let e : b ≡ take (size w) s.front.bytes ++ replicate (32 - size w) 0 = ap₂ (λ (x y : List ℕ). x ++ y) (h.1 ∙ ap (λ (n : ℕ). take n s.front.bytes) l) (zeros_behind w k c.mask_size.ensures.is) in
-    let words : c.word_at.result ∷ c.word_at-2.result ∷ c.word_at-3.result ∷ c.word_at-4.result ∷ [] ≡ value (take 8 (drop 0 b)) ∷ value (take 8 (drop 8 b)) ∷ value (take 8 (drop 16 b)) ∷ value (take 8 (drop 24 b)) ∷ [] =
-    ap₂ (λ (x : ℕ) (xs : List ℕ). x ∷ xs) c.word_at.ensures (ap₂ (λ (x : ℕ) (xs : List ℕ). x ∷ xs) c.word_at-2.ensures (ap₂ (λ (x y : ℕ). x ∷ y ∷ []) c.word_at-3.ensures c.word_at-4.ensures)) in
     record {
       took = took_one (size w) s t (take k (replicate 32 0)) buf tt l h;
-      gives = words ∙ four-words b ∙ mask_is w s.front.bytes b (omega (arith, h.0, l)) e;
+      gives = c.words_of.ensures ∙ mask_is w s.front.bytes b (omega (arith, h.0, l)) e;
     }

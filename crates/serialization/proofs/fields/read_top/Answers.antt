@@ -1,5 +1,4 @@
-use Rattle.std.proofs.Common.{◌≡◌, ℕ, ◌+◌, List, [], ◌∷◌, ◌++◌, take, drop, Some, None, refl, ap, ◌∙◌, subst, arith}
-use Rattle.std.proofs.lemmas.Result.{err_from_is_err_and}
+use Rattle.std.proofs.Common.{◌≡◌, ℕ, ◌+◌, List, [], ◌∷◌, ◌++◌, take, drop, Some, None, refl, ap, ◌∙◌, subst, arith, rules}
 use Rattle.bit_block.specs.declared.config.Config.{Config}
 use Rattle.reader.specs.declared.fault.ReadFault.{ReadFault}
 use Rattle.reader.specs.Streams.{Stream}
@@ -28,24 +27,23 @@ three-read k s t1 t2 t3 p q r = took_then (first k ++ mask k) starts None s t2 t
 
 pub returns-in_err-skip_padding-clause-took : goal.returns-in_err-skip_padding-clause-took
 returns-in_err-skip_padding-clause-took g c =
-    let p = err_from_is_err_and c.from_residual.result c.from_residual.ensures.1 in
     let k : Config = c.args.config in
     let s : Stream = g.R.Reader.means c.args.reader.now in
-    rw (p.1, p.2) (took_stop (first k) (mask k ++ starts ++ last k) c.in_err-skip_padding.field-0.0 s (g.R.Reader.means c.skip_padding.new.reader) c.in_err-skip_padding.ensures)
+    let h = took_stop (first k) (mask k ++ starts ++ last k) c.in_err-skip_padding.field-0.0 s (g.R.Reader.means c.skip_padding.new.reader) c.in_err-skip_padding.ensures in
+    search rules
 
 pub returns-in_err-level0-clause-took : goal.returns-in_err-level0-clause-took
 returns-in_err-level0-clause-took g c =
-    let p = err_from_is_err_and c.from_residual-in_err-level0.result c.from_residual-in_err-level0.ensures.1 in
     let k : Config = c.args.config in
     let s : Stream = g.R.Reader.means c.args.reader.now in
     let t1 : Stream = g.R.Reader.means c.skip_padding.new.reader in
     let t2 : Stream = g.R.Reader.means c.read_mask.new.reader in
     let e : ReadFault = c.in_err-level0.field-0.0 in
-    rw (p.1, p.2) (took_stop (first k ++ mask k) (starts ++ last k) e s t2 (took_then (first k) (mask k) (Some e) s t1 t2 c.in_ok-skip_padding.ensures c.in_err-level0.ensures.took))
+    let h = took_stop (first k ++ mask k) (starts ++ last k) e s t2 (took_then (first k) (mask k) (Some e) s t1 t2 c.in_ok-skip_padding.ensures c.in_err-level0.ensures.took) in
+    search rules
 
 pub returns-in_err-starts-clause-took : goal.returns-in_err-starts-clause-took
 returns-in_err-starts-clause-took g c =
-    let p = err_from_is_err_and c.from_residual-in_err-starts.result c.from_residual-in_err-starts.ensures.1 in
     let k : Config = c.args.config in
     let s : Stream = g.R.Reader.means c.args.reader.now in
     let t1 : Stream = g.R.Reader.means c.skip_padding.new.reader in
@@ -53,11 +51,11 @@ returns-in_err-starts-clause-took g c =
     let t3 : Stream = g.R.Reader.means c.read_starts.new.reader in
     let e : ReadFault = c.in_err-starts.field-0.0 in
     let two : Took (first k ++ mask k) s None t2 = took_then (first k) (mask k) None s t1 t2 c.in_ok-skip_padding.ensures c.in_ok-level0.ensures.took in
-    rw (p.1, p.2) (took_stop (first k ++ mask k ++ starts) (last k) e s t3 (took_then (first k ++ mask k) starts (Some e) s t2 t3 two c.in_err-starts.ensures.took))
+    let h = took_stop (first k ++ mask k ++ starts) (last k) e s t3 (took_then (first k ++ mask k) starts (Some e) s t2 t3 two c.in_err-starts.ensures.took) in
+    search rules
 
 pub returns-in_err-skip_padding-2-clause-took : goal.returns-in_err-skip_padding-2-clause-took
 returns-in_err-skip_padding-2-clause-took g c =
-    let p = err_from_is_err_and c.from_residual-in_err-skip_padding-2.result c.from_residual-in_err-skip_padding-2.ensures.1 in
     let k : Config = c.args.config in
     let s : Stream = g.R.Reader.means c.args.reader.now in
     let t1 : Stream = g.R.Reader.means c.skip_padding.new.reader in
@@ -66,8 +64,9 @@ returns-in_err-skip_padding-2-clause-took g c =
     let t4 : Stream = g.R.Reader.means c.skip_padding-2.new.reader in
     let e : ReadFault = c.in_err-skip_padding-2.field-0.0 in
     let three : Took (first k ++ mask k ++ starts) s None t3 = three-read k s t1 t2 t3 c.in_ok-skip_padding.ensures c.in_ok-level0.ensures.took c.in_ok-starts.ensures.took in
-    let at : 8 + c.padding_for.result + c.mask_size.result + 8 ≡ starts0_end k = omega (arith, c.padding_for.ensures.is, c.mask_size.ensures.is) in
-    rw (p.1, p.2) (took_then (first k ++ mask k ++ starts) (last k) (Some e) s t3 t4 three (subst (λ (n : ℕ). Took (one (padding (size k.level1) n) ∷ []) t3 (Some e) t4) at c.in_err-skip_padding-2.ensures))
+    let at : c.new-end.result.level0_starts + 8 ≡ starts0_end k = omega (arith, c.new-end.ensures.starts0) in
+    let h = took_then (first k ++ mask k ++ starts) (last k) (Some e) s t3 t4 three (subst (λ (n : ℕ). Took (one (padding (size k.level1) n) ∷ []) t3 (Some e) t4) at c.in_err-skip_padding-2.ensures) in
+    search rules
 
 pub returns-clause-took : goal.returns-clause-took
 returns-clause-took g c =
@@ -78,7 +77,7 @@ returns-clause-took g c =
     let t3 : Stream = g.R.Reader.means c.read_starts.new.reader in
     let t4 : Stream = g.R.Reader.means c.skip_padding-2.new.reader in
     let three : Took (first k ++ mask k ++ starts) s None t3 = three-read k s t1 t2 t3 c.in_ok-skip_padding.ensures c.in_ok-level0.ensures.took c.in_ok-starts.ensures.took in
-    let at : 8 + c.padding_for.result + c.mask_size.result + 8 ≡ starts0_end k = omega (arith, c.padding_for.ensures.is, c.mask_size.ensures.is) in
+    let at : c.new-end.result.level0_starts + 8 ≡ starts0_end k = omega (arith, c.new-end.ensures.starts0) in
     took_then (first k ++ mask k ++ starts) (last k) None s t3 t4 three (subst (λ (n : ℕ). Took (one (padding (size k.level1) n) ∷ []) t3 None t4) at c.in_ok-skip_padding-2.ensures)
 
 pub returns-clause-gives : goal.returns-clause-gives

@@ -1,0 +1,6 @@
+use Rattle.std.proofs.Common.{◌∙◌}
+use Rattle.reader.proofs.LittleEndians.{value_2}
+use Rattle.reader.proofs.little_endian.U16LittleEndian2.from_le_bytes.Goals as goal
+
+pub returns : goal.returns
+returns c = c.from_le_bytes.ensures ∙ value_2 c.args.bytes.now c.told-bytes

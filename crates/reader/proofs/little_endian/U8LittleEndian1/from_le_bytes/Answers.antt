@@ -1,0 +1,6 @@
+use Rattle.std.proofs.Common.{◌∙◌}
+use Rattle.reader.proofs.LittleEndians.{value_1}
+use Rattle.reader.proofs.little_endian.U8LittleEndian1.from_le_bytes.Goals as goal
+
+pub returns : goal.returns
+returns c = c.from_le_bytes.ensures ∙ value_1 c.args.bytes.now c.told-bytes
