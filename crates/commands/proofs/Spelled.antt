@@ -1,6 +1,6 @@
 -- Words that are numbers and names.
-use Rattle.std.proofs.Common.{◌≡◌, ℕ, ◌^◌, ◌<◌, true, List, length, get_or, Ok, Err, IsUtf8, Result, subst, arith, rules}
-use Rattle.std.specs.Result.{OkIff}
+use Rattle.std.proofs.Common.{◌≡◌, ℕ, ◌^◌, ◌<◌, true, List, length, get_or, Ok, Err, IsUtf8, Result, subst, refl, arith, rules}
+use Rattle.std.specs.Result.{OkIff, MatchResult, IsOk, is_ok}
 use Rattle.std.specs.Str.Parse.{ParsesUnsigned}
 use Rattle.std.specs.Int.{IsInRange}
 use Rattle.std.proofs.lemmas.Str.Ascii.{IsAscii-from_reads}
@@ -30,3 +30,14 @@ name_byte_ascii c h = search rules
 
 pub name_utf8 : (w : List ℕ) → Name w → IsUtf8 w
 name_utf8 w n = IsUtf8-from_ascii w (IsAscii-from_reads w (length w) (omega arith) (λ k l. name_byte_ascii (get_or w k 0) (n.1 k l)))
+
+-- reading bytes as text succeeds where they are text
+pub IsOk-text : {T E : Type 0} (P : T → Type 0) (Q : E → Type 0) (w : List ℕ) (r : Result T E) → IsUtf8 w → MatchResult r P (λ e. ¬ IsUtf8 w × Q e) → IsOk r
+IsOk-text P Q w (Ok t) u h = refl
+IsOk-text P Q w (Err e) u h = absurd (h.0 u)
+
+-- `map_err` keeps when there is a value, and which
+pub OkIff-map_err : {T D E : Type 0} (Q : D → Type 0) (r : Result T D) (s : Result T E) (P : Type 0) (v : T) → OkIff r P v → MatchResult r (λ x. s ≡ Ok x) Q → is_ok s ≡ is_ok r → OkIff s P v
+OkIff-map_err Q (Ok x) s P v h same variant = rw same h
+OkIff-map_err Q (Err d) (Ok x) P v h q variant = absurd cc
+OkIff-map_err Q (Err d) (Err e) P v h q variant = h

@@ -10,12 +10,7 @@ use bit_block::config::{Config, Width};
 fn is_decimal(word: &[u8]) -> bool
     ensures { MatchBool result (Decimal word.now) (Decimal word.now → ⊥) }
 {
-    for b in word {
-        if !b.is_ascii_digit() {
-            return false;
-        }
-    }
-    !word.is_empty()
+    !word.is_empty() && word.iter().all(|b| b.is_ascii_digit())
 }
 
 // A decimal number of at most 64 bits.
@@ -25,32 +20,18 @@ pub fn number<'a>(word: &'a [u8]) -> Result<usize, LineError<'a>>
     if !is_decimal(word) {
         return Err(LineError::NotNumber(word));
     }
-    let Ok(text) = std::str::from_utf8(word) else {
-        return Err(LineError::NotNumber(word));
-    };
-    match text.parse() {
-        Ok(value) => Ok(value),
-        Err(_) => Err(LineError::NumberTooLarge(word)),
-    }
+    let digits = std::str::from_utf8(word).unwrap();
+    digits.parse().map_err(|_| LineError::NumberTooLarge(word))
 }
 
-// Whether a byte may stand in a name.
-fn is_name_byte(b: u8) -> bool
-    ensures { result ≡ name_byte b }
-{
-    b.is_ascii_alphanumeric() || b == b'-' || b == b'_'
-}
-
-// Whether a word is one or more bytes of a name.
+// Whether a word is one or more letters, digits, hyphens and underscores.
 fn is_name(word: &[u8]) -> bool
     ensures { MatchBool result (Name word.now) (Name word.now → ⊥) }
 {
-    for b in word {
-        if !is_name_byte(*b) {
-            return false;
-        }
-    }
     !word.is_empty()
+        && word
+            .iter()
+            .all(|b| b.is_ascii_alphanumeric() || matches!(b, b'-' | b'_'))
 }
 
 // The name of a set.
@@ -60,10 +41,7 @@ pub fn name<'a>(word: &'a [u8]) -> Result<&'a str, LineError<'a>>
     if !is_name(word) {
         return Err(LineError::NotName(word));
     }
-    match std::str::from_utf8(word) {
-        Ok(text) => Ok(text),
-        Err(_) => Err(LineError::NotName(word)),
-    }
+    Ok(std::str::from_utf8(word).unwrap())
 }
 
 // The width that a text begins with, and what follows it.
