@@ -44,24 +44,14 @@ pub fn name<'a>(word: &'a [u8]) -> Result<&'a str, LineError<'a>>
     Ok(std::str::from_utf8(word).unwrap())
 }
 
-// The width that a text begins with, and what follows it.
-fn leading_width(text: &[u8]) -> Option<(Width, &[u8])>
-    ensures { MatchOption result ((w : Width) (rest : List ℕ) → text.now ≢ width_text w ++ rest) (λ p. text.now ≡ width_text p.0 ++ p.1.now) }
+// The width that a word spells.
+fn width(word: &[u8]) -> Option<Width>
+    ensures { MatchOption result ((w : Width) → word.now ≢ width_text w) (λ w. word.now ≡ width_text w) }
 {
-    match text {
-        [b'6', b'4', rest @ ..] => Some((Width::W64, rest)),
-        [b'1', b'2', b'8', rest @ ..] => Some((Width::W128, rest)),
-        [b'2', b'5', b'6', rest @ ..] => Some((Width::W256, rest)),
-        _ => None,
-    }
-}
-
-// What follows the slash that a text begins with.
-fn after_slash(text: &[u8]) -> Option<&[u8]>
-    ensures { MatchOption result ((rest : List ℕ) → text.now ≢ 47 ∷ rest) (λ rest. text.now ≡ 47 ∷ rest.now) }
-{
-    match text {
-        [b'/', rest @ ..] => Some(rest),
+    match word {
+        b"64" => Some(Width::W64),
+        b"128" => Some(Width::W128),
+        b"256" => Some(Width::W256),
         _ => None,
     }
 }
@@ -70,18 +60,15 @@ fn after_slash(text: &[u8]) -> Option<&[u8]>
 fn three_widths(text: &[u8]) -> Option<Config>
     ensures { MatchOption result ((c : Config) → text.now ≢ config_text c) (λ c. text.now ≡ config_text c) }
 {
-    let (level0, rest) = leading_width(text)?;
-    let (level1, rest) = leading_width(after_slash(rest)?)?;
-    let (data, rest) = leading_width(after_slash(rest)?)?;
-    if rest.is_empty() {
-        Some(Config {
-            level0,
-            level1,
-            data,
-        })
-    } else {
-        None
-    }
+    let mut parts = text.split(|b| *b == b'/');
+    let level0 = width(parts.next()?)?;
+    let level1 = width(parts.next()?)?;
+    let data = width(parts.next()?)?;
+    parts.next().is_none().then_some(Config {
+        level0,
+        level1,
+        data,
+    })
 }
 
 // A configuration, by its name or by its three widths.
