@@ -52,17 +52,17 @@ module _ {S A B : Type 0} {steps : S → Option A → S → Type 0} {v : A → B
   -- it gives one more
   pub gives_one : (t : S) (x : A) → steps s (Some x) t → HasGiven steps v ys (given ++ v x ∷ []) t
   gives_one t x h = elim now.left as (λ l. ys ≡ given ++ l → AlwaysYields steps v s l → HasGiven steps v ys (given ++ v x ∷ []) t) [
-      [] ↦ λ is all. absurd (all x t h)
+    | [] ↦ λ is all. absurd (all x t h)
     | y ∷ left ↦ λ is all. let p = all.1 x t h in
-      record { left = left; is = is ∙ ap (λ z. given ++ z ∷ left) (sym p.0) ∙ sym (append_assoc given (v x ∷ []) left); gives = p.1 }
-    ] now.is now.gives
+        record { left = left; is = is ∙ ap (λ z. given ++ z ∷ left) (sym p.0) ∙ sym (append_assoc given (v x ∷ []) left); gives = p.1 }
+  ] now.is now.gives
 
   -- it gives no more
   pub gives_none : (t : S) → steps s None t → ys ≡ given
   gives_none t h = elim now.left as (λ l. ys ≡ given ++ l → AlwaysYields steps v s l → ys ≡ given) [
-      [] ↦ λ is all. is ∙ append-nil given
+    | [] ↦ λ is all. is ∙ append-nil given
     | y ∷ left ↦ λ is all. absurd (all.0 t h)
-    ] now.is now.gives
+  ] now.is now.gives
 
 -- a split of a text at its slashes has given nothing
 pub begins_split : {F : Type 0} (g : Mut F (Bor ℕ × Unit {0}) Bool) (s : _) (f : F) (Q : Run (split_steps g) → Type 0) (t : List ℕ) → EachRunFrom (split_steps g) s Q → split_rest s ≡ t → split_done s ≡ false → split_callee s ≡ f → ((x : ℕ) (b : Bool) (q : F) → CalledAt g f x b q → (q ≡ f) × (b ≡ nat_eq x 47)) → HasGiven (split_steps g) (λ (x : Bor (List ℕ)). x.now) (parts t) [] s

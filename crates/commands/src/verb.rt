@@ -1,4 +1,6 @@
 // The commands: the word of each, what it takes and what it prints.
+use crate::error::LineError;
+use std::fmt;
 
 #[derive(Clone, Copy, PartialEq, Eq, Debug)]
 pub enum Layer {
@@ -85,6 +87,13 @@ impl Rule {
     }
 }
 
+impl fmt::Display for Rule {
+    // The word that names the rule.
+    fn fmt<W: fmt::Write>(&self, f: &mut fmt::Formatter<W>) -> fmt::Result {
+        f.write_str(self.word())
+    }
+}
+
 // What a command does, without its operands.
 #[derive(Clone, Copy, PartialEq, Eq, Debug)]
 pub enum Verb {
@@ -121,16 +130,6 @@ impl Verb {
         Verb::Check(Rule::Notes),
         Verb::Check(Rule::Pages),
     ];
-
-    // The verb that a word names.
-    pub fn named(word: &[u8]) -> Option<Verb> {
-        for verb in Verb::ALL {
-            if verb.word().as_bytes() == word {
-                return Some(verb);
-            }
-        }
-        None
-    }
 
     // The word that begins the command.
     pub fn word(self) -> &'static str {
@@ -179,5 +178,24 @@ impl Verb {
                 "the words that packing fills, 16 hex digits each, or none, or refused: Void",
             Verb::Check(rule) => rule.prints(),
         }
+    }
+}
+
+impl<'a> TryFrom<&'a [u8]> for Verb {
+    type Error = LineError<'a>;
+
+    // The verb that a word names.
+    fn try_from(word: &'a [u8]) -> Result<Verb, LineError<'a>> {
+        Verb::ALL
+            .into_iter()
+            .find(|verb| verb.word().as_bytes() == word)
+            .ok_or(LineError::UnknownCommand(word))
+    }
+}
+
+impl fmt::Display for Verb {
+    // The word that begins the command.
+    fn fmt<W: fmt::Write>(&self, f: &mut fmt::Formatter<W>) -> fmt::Result {
+        f.write_str(self.word())
     }
 }

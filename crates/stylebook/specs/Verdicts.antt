@@ -25,6 +25,6 @@ Verdict rule a b (Held h) = ⊥
 Verdict rule a b (Position p) = ⊥
 Verdict rule a b (Runs v) = ⊥
 Verdict rule a b (Count n) = ⊥
-Verdict rule a b (Packed n d words) = ⊥
+Verdict rule a b (Packed p) = ⊥
 Verdict rule a b (Words v) = ⊥
 Verdict rule a b (Faults told v) = (told ≡ rule) × AllRuns (fault (condition_of rule) a b) 0 (vec_items v)
