@@ -1,3 +1,4 @@
 mod Lines
 mod Spelled
+mod Verbs
 mod Widths

@@ -1,5 +1,5 @@
 -- A line without its end and its comment.
-use Rattle.std.proofs.Common.{◌≡◌, ℕ, ◌+◌, ◌-◌, ◌≤◌, ◌<◌, suc, zero, Bool, true, false, List, [], ◌∷◌, length, take, drop, get_or, nat_eq, nat_lt, Bor, Some, None, Option, rules, arith, refl, ap, ◌∙◌, sym}
+use Rattle.std.proofs.Common.{◌≡◌, ℕ, ◌+◌, ◌-◌, ◌≤◌, suc, zero, Bool, true, false, List, [], ◌∷◌, length, take, drop, get_or, nat_eq, nat_lt, Bor, Some, None, Option, arith, refl, ap, ◌∙◌, sym}
 use Rattle.std.specs.Option.{MatchOption, unwrap_or}
 use Rattle.std.specs.Cmp.Lexicographic.{pointwise}
 use Rattle.std.specs.List.{position, position_or_len, before_first}

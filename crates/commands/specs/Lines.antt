@@ -1,5 +1,5 @@
 -- What is read of a line of a script, and its words.
-use Rattle.std.specs.Prelude.{ℕ, ◌-◌, Bool, not, ◌||◌, ◌==◌, List, length, filter}
+use Rattle.std.specs.Prelude.{ℕ, Bool, not, ◌||◌, ◌==◌, List, length, filter}
 use Rattle.std.specs.List.{before_first, slice_split}
 use Rattle.std.specs.Io.BufRead.{strip_last}
 

@@ -1,4 +1,6 @@
 // A line of a script as a command.
+ghost use Rattle.std.specs.Prelude.{MatchResult};
+
 use crate::error::LineError;
 use crate::operand;
 use crate::verb::{Layer, Rule, Verb};
@@ -13,7 +15,12 @@ pub struct Span<'a> {
 }
 
 impl<'a> TryFrom<[&'a [u8]; 3]> for Span<'a> {
+    ghost use Rattle.commands.specs.declared.command.Span.{Span};
+    ghost use Rattle.commands.specs.Commands.{SpellsSpan};
+
     type Error = LineError<'a>;
+
+    ghost try_from_gives = { λ words r. MatchResult r (SpellsSpan words) (λ _. (s : Span) → SpellsSpan words s → ⊥) };
 
     // A name and two numbers.
     fn try_from([name, from, to]: [&'a [u8]; 3]) -> Result<Span<'a>, LineError<'a>> {
@@ -33,7 +40,12 @@ pub struct Place<'a> {
 }
 
 impl<'a> TryFrom<[&'a [u8]; 2]> for Place<'a> {
+    ghost use Rattle.commands.specs.declared.command.Place.{Place};
+    ghost use Rattle.commands.specs.Commands.{SpellsPlace};
+
     type Error = LineError<'a>;
+
+    ghost try_from_gives = { λ words r. MatchResult r (SpellsPlace words) (λ _. (s : Place) → SpellsPlace words s → ⊥) };
 
     // A name and a number.
     fn try_from([name, position]: [&'a [u8]; 2]) -> Result<Place<'a>, LineError<'a>> {
@@ -52,7 +64,12 @@ pub struct Pair<'a> {
 }
 
 impl<'a> TryFrom<[&'a [u8]; 2]> for Pair<'a> {
+    ghost use Rattle.commands.specs.declared.command.Pair.{Pair};
+    ghost use Rattle.commands.specs.Commands.{SpellsPair};
+
     type Error = LineError<'a>;
+
+    ghost try_from_gives = { λ words r. MatchResult r (SpellsPair words) (λ _. (s : Pair) → SpellsPair words s → ⊥) };
 
     // Two names.
     fn try_from([first, second]: [&'a [u8]; 2]) -> Result<Pair<'a>, LineError<'a>> {

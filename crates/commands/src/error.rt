@@ -7,8 +7,8 @@ use thiserror::Error;
 pub enum LineError<'a> {
     #[error("unknown command '{}'", .0.escape_ascii())]
     UnknownCommand(&'a [u8]),
-    #[error("{verb} takes {}", .0.operands(), verb = .0)]
     // a command with too few or too many words
+    #[error("{0} takes {operands}", operands = .0.operands())]
     WordCount(Verb),
     #[error("'{}' is not a number", .0.escape_ascii())]
     NotNumber(&'a [u8]),

@@ -1,4 +1,7 @@
 // The commands: the word of each, what it takes and what it prints.
+ghost use Rattle.std.specs.Prelude.{◌≡◌, ◌≢◌, MatchResult};
+ghost use Rattle.commands.specs.Verbs.{layer_word, rule_word, verb_word};
+
 use crate::error::LineError;
 use std::fmt;
 
@@ -16,7 +19,9 @@ pub enum Layer {
 
 impl Layer {
     // The word that names the layer in a script.
-    pub fn word(self) -> &'static str {
+    pub fn word(self) -> &'static str
+        ensures { result.now ≡ layer_word self }
+    {
         match self {
             Layer::Both => "both",
             Layer::Either => "either",
@@ -53,7 +58,9 @@ pub enum Rule {
 
 impl Rule {
     // The word that names the rule in a script and in its answer.
-    pub fn word(self) -> &'static str {
+    pub fn word(self) -> &'static str
+        ensures { result.now ≡ rule_word self }
+    {
         match self {
             Rule::Emphasis => "emphasis",
             Rule::Languages => "languages",
@@ -132,7 +139,9 @@ impl Verb {
     ];
 
     // The word that begins the command.
-    pub fn word(self) -> &'static str {
+    pub fn word(self) -> &'static str
+        ensures { result.now ≡ verb_word self }
+    {
         match self {
             Verb::Draft => "draft",
             Verb::Mark => "mark",
@@ -182,7 +191,11 @@ impl Verb {
 }
 
 impl<'a> TryFrom<&'a [u8]> for Verb {
+    ghost use Rattle.commands.specs.declared.verb.Verb.{Verb};
+
     type Error = LineError<'a>;
+
+    ghost try_from_gives = { λ word r. MatchResult r (λ verb. word.now ≡ verb_word verb) (λ _. (verb : Verb) → word.now ≢ verb_word verb) };
 
     // The verb that a word names.
     fn try_from(word: &'a [u8]) -> Result<Verb, LineError<'a>> {

@@ -1,4 +1,4 @@
-use Rattle.std.proofs.Common.{◌≡◌, [], ◌∷◌, nat_eq, sym, ◌∙◌, ap, refl, rules, tests}
+use Rattle.std.proofs.Common.{rules, tests}
 use Rattle.commands.proofs.Widths.{begins_split, gives_one, same_part, three_texts, ends_config}
 use Rattle.commands.proofs.operand.three_widths.Goals as goal
 
