@@ -21,6 +21,7 @@ read_word {E = E} w (Err e) h d = λ q. parse_digits own {E = E} 64 w (Err e) h 
 pub read_decimal : {E : Type 0} (w t : List ℕ) (r : Result ℕ E) → t ≡ w → ParsesUnsigned {E = E} 64 10 t r → Decimal w → OkIff r (Decimal w × (decimal_value w < 2 ^ 64)) (decimal_value w)
 read_decimal {E = E} w t r e h d = let P : List ℕ → Type 0 = λ bs. ParsesUnsigned {E = E} 64 10 bs r in read_word {E = E} w r (subst P e h) d
 
+-- digits are text
 pub decimal_utf8 : (w : List ℕ) → Decimal w → IsUtf8 w
 decimal_utf8 w d = IsUtf8-from_ascii w (IsAscii-from_reads w (length w) (omega arith) (λ k l. omega (arith, d.1 k l)))
 
@@ -28,6 +29,7 @@ decimal_utf8 w d = IsUtf8-from_ascii w (IsAscii-from_reads w (length w) (omega a
 name_byte_ascii : (c : ℕ) → name_byte c ≡ true → c < 128
 name_byte_ascii c h = search rules
 
+-- a name is text
 pub name_utf8 : (w : List ℕ) → Name w → IsUtf8 w
 name_utf8 w n = IsUtf8-from_ascii w (IsAscii-from_reads w (length w) (omega arith) (λ k l. name_byte_ascii (get_or w k 0) (n.1 k l)))
 

@@ -19,6 +19,7 @@ use Rattle.commands.specs.Operands.{width_text, config_text}
 abbrev pub parts : List ℕ → List (List ℕ)
 parts t = slice_split (λ b. nat_eq b 47) t
 
+-- no width has a slash
 no_slash : (w : Width) → All (λ b. nat_eq b 47 ≡ false) (width_text w)
 no_slash W64 = search rules
 no_slash W128 = search rules
@@ -28,10 +29,11 @@ no_slash W256 = search rules
 abbrev pub width_texts : Config → List (List ℕ)
 width_texts c = width_text c.level0 ∷ (width_text c.level1 ∷ (width_text c.«data» ∷ []))
 
+-- three texts that are those of its widths
 pub three_texts : (x y z : List ℕ) (c : Config) → x ≡ width_text c.level0 → y ≡ width_text c.level1 → z ≡ width_text c.«data» → x ∷ (y ∷ (z ∷ [])) ≡ width_texts c
 three_texts x y z c first second third = cc
 
--- they are the parts of its text
+-- the texts of its widths are the parts of its text
 parts-config_text : (c : Config) → parts (config_text c) ≡ width_texts c
 parts-config_text c =
     slice_split_at _ (width_text c.level0) 47 _ (no_slash c.level0) refl

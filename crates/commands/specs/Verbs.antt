@@ -8,18 +8,21 @@ use Rattle.commands.specs.declared.verb.Verb.{Verb}
 use Rattle.commands.specs.declared.verb.Verb.TheVariants as verb
 use Rattle.commands.specs.declared.verb.Verb.TheVariants.{Draft, Mark, Clear, Has, Next, Runs, Count, Pack, Words, Check}
 
+-- the word of each layer
 abbrev pub layer_word : Layer → List ℕ
 layer_word Both = codes "both"
 layer_word Either = codes "either"
 layer_word Without = codes "without"
 layer_word OneOf = codes "oneof"
 
+-- the word of each rule
 abbrev pub rule_word : Rule → List ℕ
 rule_word Emphasis = codes "emphasis"
 rule_word Languages = codes "languages"
 rule_word Notes = codes "notes"
 rule_word Pages = codes "pages"
 
+-- the word of each verb
 abbrev pub verb_word : Verb → List ℕ
 verb_word Draft = codes "draft"
 verb_word Mark = codes "mark"

@@ -36,9 +36,7 @@ impl Positions {
 
     // The positions of a source as they are now.
     pub fn of<'n, S: LevelMasks>(heap: Global, source: &S) -> Result<Positions, Declined<'n>> {
-        let Some(config) = source.config() else {
-            return Err(Declined::Refused(Refusal::Void));
-        };
+        let config = source.config().ok_or(Refusal::Void)?;
         let mut positions = Positions::none(heap, config, words_needed(config))?;
         mark_all(source, &mut positions.open()).map_err(Refusal::from)?;
         Ok(positions)
