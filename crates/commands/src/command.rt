@@ -1,5 +1,6 @@
 // A line of a script as a command.
-ghost use Rattle.std.specs.Prelude.{MatchResult};
+ghost use Rattle.std.specs.Prelude.{IfOk, MatchResult};
+ghost use Rattle.commands.specs.Commands.{SpellsCommand, SpellsDraft, SpellsPack, SpellsLayer};
 
 use crate::error::LineError;
 use crate::operand;
@@ -108,7 +109,9 @@ pub enum Command<'a> {
 }
 
 // The command of a word and its operands.
-pub fn parse<'a>(word: &'a [u8], operands: &[&'a [u8]]) -> Result<Command<'a>, LineError<'a>> {
+pub fn parse<'a>(word: &'a [u8], operands: &[&'a [u8]]) -> Result<Command<'a>, LineError<'a>>
+    ensures { IfOk result (SpellsCommand word.now operands.now) }
+{
     match (Verb::try_from(word)?, operands) {
         (Verb::Draft, &[name, config]) => parse_draft(name, config, None),
         (Verb::Draft, &[name, config, words]) => parse_draft(name, config, Some(words)),
@@ -134,7 +137,9 @@ fn parse_draft<'a>(
     name: &'a [u8],
     config: &'a [u8],
     words: Option<&'a [u8]>,
-) -> Result<Command<'a>, LineError<'a>> {
+) -> Result<Command<'a>, LineError<'a>>
+    ensures { IfOk result (SpellsDraft name.entry config.entry words.entry) }
+{
     Ok(Command::Draft {
         name: operand::name(name)?,
         config: operand::config(config)?,
@@ -143,7 +148,9 @@ fn parse_draft<'a>(
 }
 
 // The command that packs a set.
-fn parse_pack<'a>(name: &'a [u8], words: Option<&'a [u8]>) -> Result<Command<'a>, LineError<'a>> {
+fn parse_pack<'a>(name: &'a [u8], words: Option<&'a [u8]>) -> Result<Command<'a>, LineError<'a>>
+    ensures { IfOk result (SpellsPack name.entry words.entry) }
+{
     Ok(Command::Pack {
         name: operand::name(name)?,
         words: words.map(operand::number).transpose()?,
@@ -155,7 +162,9 @@ fn parse_layer<'a>(
     layer: Layer,
     name: &'a [u8],
     over: [&'a [u8]; 2],
-) -> Result<Command<'a>, LineError<'a>> {
+) -> Result<Command<'a>, LineError<'a>>
+    ensures { IfOk result (SpellsLayer layer name.entry over.entry) }
+{
     Ok(Command::Layer {
         layer,
         name: operand::name(name)?,
