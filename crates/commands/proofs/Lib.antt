@@ -1,3 +1,4 @@
+mod Commands
 mod Lines
 mod Spelled
 mod Verbs

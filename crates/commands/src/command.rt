@@ -1,5 +1,5 @@
 // A line of a script as a command.
-ghost use Rattle.std.specs.Prelude.{IfOk, MatchResult};
+ghost use Rattle.std.specs.Prelude.{IfErr, IfOk, MatchResult};
 ghost use Rattle.commands.specs.Commands.{SpellsCommand, SpellsDraft, SpellsPack, SpellsLayer};
 
 use crate::error::LineError;
@@ -110,7 +110,8 @@ pub enum Command<'a> {
 
 // The command of a word and its operands.
 pub fn parse<'a>(word: &'a [u8], operands: &[&'a [u8]]) -> Result<Command<'a>, LineError<'a>>
-    ensures { IfOk result (SpellsCommand word.now operands.now) }
+    ensures ok { IfOk result (SpellsCommand word.now operands.now) }
+    ensures err { IfErr result (λ _. (c : Command) → SpellsCommand word.now operands.now c → ⊥) }
 {
     match (Verb::try_from(word)?, operands) {
         (Verb::Draft, &[name, config]) => parse_draft(name, config, None),
@@ -138,7 +139,8 @@ fn parse_draft<'a>(
     config: &'a [u8],
     words: Option<&'a [u8]>,
 ) -> Result<Command<'a>, LineError<'a>>
-    ensures { IfOk result (SpellsDraft name.entry config.entry words.entry) }
+    ensures ok { IfOk result (SpellsDraft name.entry config.entry words.entry) }
+    ensures err { IfErr result (λ _. (c : Command) → SpellsDraft name.entry config.entry words.entry c → ⊥) }
 {
     Ok(Command::Draft {
         name: operand::name(name)?,
@@ -149,7 +151,8 @@ fn parse_draft<'a>(
 
 // The command that packs a set.
 fn parse_pack<'a>(name: &'a [u8], words: Option<&'a [u8]>) -> Result<Command<'a>, LineError<'a>>
-    ensures { IfOk result (SpellsPack name.entry words.entry) }
+    ensures ok { IfOk result (SpellsPack name.entry words.entry) }
+    ensures err { IfErr result (λ _. (c : Command) → SpellsPack name.entry words.entry c → ⊥) }
 {
     Ok(Command::Pack {
         name: operand::name(name)?,
@@ -163,7 +166,8 @@ fn parse_layer<'a>(
     name: &'a [u8],
     over: [&'a [u8]; 2],
 ) -> Result<Command<'a>, LineError<'a>>
-    ensures { IfOk result (SpellsLayer layer name.entry over.entry) }
+    ensures ok { IfOk result (SpellsLayer layer name.entry over.entry) }
+    ensures err { IfErr result (λ _. (c : Command) → SpellsLayer layer name.entry over.entry c → ⊥) }
 {
     Ok(Command::Layer {
         layer,
