@@ -1,4 +1,5 @@
 // Drafts: what they hold, marks at word edges, refusals, and the words behind them.
+use crate::set_ups::{marked, marked_four};
 use bit_block::config::Config;
 use bitset_interface::LevelMasks;
 use bitset_interface::walk::{contains, next_from};
@@ -9,10 +10,7 @@ use std::test::Fail;
 #[test]
 fn four_positions(rt: HostRuntime) -> Result<(), Fail> {
     let mut words = [9u64; 4_096];
-    let mut d = Draft::new(&mut words, Config::SMALL);
-    for p in [3, 64, 70, 4_096] {
-        d.mark(p, p + 1)?;
-    }
+    let d = marked_four(&mut words)?;
     assert!(rt; contains(&d, 70));
     assert!(rt; !contains(&d, 65));
     assert_eq!(rt; next_from(&d, 71), Some(4_096));
@@ -25,8 +23,7 @@ fn four_positions(rt: HostRuntime) -> Result<(), Fail> {
 #[test]
 fn positions_past_the_capacity(rt: HostRuntime) -> Result<(), Fail> {
     let mut words = [0u64; 4_096];
-    let mut d = Draft::new(&mut words, Config::SMALL);
-    d.mark(0, 262_144)?;
+    let d = marked(&mut words, [(0, 262_144)])?;
     assert!(rt; contains(&d, 262_143));
     assert!(rt; !contains(&d, 262_144));
     assert!(rt; !contains(&d, usize::MAX));
@@ -87,8 +84,7 @@ fn marks_at_word_edges() -> Result<(), Fail> {
 #[test]
 fn a_whole_draft(rt: HostRuntime) -> Result<(), Fail> {
     let mut words = [0u64; 4_096];
-    let mut d = Draft::new(&mut words, Config::SMALL);
-    d.mark(0, 262_144)?;
+    let mut d = marked(&mut words, [(0, 262_144)])?;
     assert_eq!(rt; count_held(&d), 262_144);
     assert!(rt;
         next_run(&d, 0)
@@ -125,10 +121,7 @@ fn bad_ranges(rt: HostRuntime) {
 #[test]
 fn words_behind_a_draft(rt: HostRuntime) -> Result<(), Fail> {
     let mut words = [7u64; 4_098];
-    {
-        let mut d = Draft::new(&mut words, Config::SMALL);
-        d.mark(262_080, 262_144)?;
-    }
+    let _ = marked(&mut words, [(262_080, 262_144)])?;
     assert_eq!(rt; words[0], 0);
     assert_eq!(rt; words[4_095], u64::MAX);
     assert_eq!(rt; words[4_096], 7);

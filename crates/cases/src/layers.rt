@@ -1,5 +1,6 @@
 // Layers over drafts, three deep and over unequal configurations.
-use bit_block::config::Config;
+use crate::set_ups::marked;
+use bit_block::config::{Config, Width};
 use bitset_interface::LevelMasks;
 use bitset_interface::walk::{contains, next_from};
 use certificate::conditions::{Condition, comparable, next_fault};
@@ -11,12 +12,9 @@ use std::test::Fail;
 #[test]
 fn three_deep(rt: HostRuntime) -> Result<(), Fail> {
     let (mut x, mut y, mut z) = ([0u64; 4_096], [0u64; 4_096], [0u64; 4_096]);
-    let mut a = Draft::new(&mut x, Config::SMALL);
-    let mut b = Draft::new(&mut y, Config::SMALL);
-    let mut c = Draft::new(&mut z, Config::SMALL);
-    a.mark(0, 100)?;
-    b.mark(50, 150)?;
-    c.mark(90, 200)?;
+    let a = marked(&mut x, [(0, 100)])?;
+    let b = marked(&mut y, [(50, 150)])?;
+    let c = marked(&mut z, [(90, 200)])?;
     let pile = OneOf::new(Both::new(Either::new(&a, &b), Without::new(&c, &a)), &b);
     for p in 0..256 {
         let (a, b, c) = (p < 100, 50 <= p && p < 150, 90 <= p && p < 200);
@@ -31,15 +29,14 @@ fn three_deep(rt: HostRuntime) -> Result<(), Fail> {
 fn unequal_configurations(rt: HostRuntime) -> Result<(), Fail> {
     let mut words = [0u64; 4_096];
     let mut more = [0u64; 8_192];
-    let mut a = Draft::new(&mut words, Config::SMALL);
+    let a = marked(&mut words, [(0, 10)])?;
     let mut b = Draft::new(
         &mut more,
         Config {
-            data: bit_block::config::Width::W128,
+            data: Width::W128,
             ..Config::SMALL
         },
     );
-    a.mark(0, 10)?;
     b.mark(0, 10)?;
     let layer = Either::new(&a, &b);
     assert!(rt; layer.config().is_none());
@@ -53,10 +50,8 @@ fn unequal_configurations(rt: HostRuntime) -> Result<(), Fail> {
 #[test]
 fn faults_of_two_styles(rt: HostRuntime) -> Result<(), Fail> {
     let (mut x, mut y) = ([0u64; 4_096], [0u64; 4_096]);
-    let mut a = Draft::new(&mut x, Config::SMALL);
-    let mut b = Draft::new(&mut y, Config::SMALL);
-    a.mark(10, 20)?;
-    b.mark(15, 30)?;
+    let a = marked(&mut x, [(10, 20)])?;
+    let b = marked(&mut y, [(15, 30)])?;
     assert!(rt; comparable(&a, &b));
     assert!(rt; next_fault(Condition::Inside, &a, &b, 0) == Some(Run { from: 10, to: 15 }));
     assert!(rt; next_fault(Condition::Inside, &a, &b, 15).is_none());

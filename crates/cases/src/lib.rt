@@ -11,3 +11,5 @@ mod layers;
 mod masks;
 #[cfg(test)]
 mod packed;
+#[cfg(test)]
+mod set_ups;

@@ -1,4 +1,5 @@
 // Packing: the words and numbers of small examples, refusals, and what a packed set answers.
+use crate::set_ups::{marked, marked_four, packed};
 use bit_block::config::Config;
 use bitset_interface::LevelMasks;
 use bitset_interface::walk::{contains, next_from};
@@ -10,24 +11,13 @@ use ops::{Either, Without};
 use packing::most_words;
 use std::test::Fail;
 
-// Marks 3, 64, 70 and 4,096.
-fn mark_four(d: &mut Draft<'_>) -> Result<(), Fail> {
-    for p in [3, 64, 70, 4_096] {
-        d.mark(p, p + 1)?;
-    }
-    Ok(())
-}
-
 #[test]
 fn words_of_four_positions(rt: HostRuntime) -> Result<(), Fail> {
     let mut marks = [0u64; 4_096];
-    let mut d = Draft::new(&mut marks, Config::SMALL);
-    mark_four(&mut d)?;
+    let d = marked_four(&mut marks)?;
     let mut words = [9u64; 7];
     {
-        let mut blank = Blank::new(&mut words);
-        blank.materialize(&d)?;
-        let set = blank.finish();
+        let set = packed(&mut words, &d)?;
         assert_eq!(rt; set.n(), 2);
         assert_eq!(rt; set.d(), 3);
         assert_eq!(rt; set.level0_mask().words[0], 3);
@@ -39,8 +29,7 @@ fn words_of_four_positions(rt: HostRuntime) -> Result<(), Fail> {
 #[test]
 fn one_word_too_few(rt: HostRuntime) -> Result<(), Fail> {
     let mut marks = [0u64; 4_096];
-    let mut d = Draft::new(&mut marks, Config::SMALL);
-    mark_four(&mut d)?;
+    let d = marked_four(&mut marks)?;
     let mut words = [9u64; 5];
     {
         let mut blank = Blank::new(&mut words);
@@ -56,12 +45,9 @@ fn one_word_too_few(rt: HostRuntime) -> Result<(), Fail> {
 #[test]
 fn a_packed_set_answers(rt: HostRuntime) -> Result<(), Fail> {
     let mut marks = [0u64; 4_096];
-    let mut d = Draft::new(&mut marks, Config::SMALL);
-    mark_four(&mut d)?;
+    let d = marked_four(&mut marks)?;
     let mut words = [0u64; 6];
-    let mut blank = Blank::new(&mut words);
-    blank.materialize(&d)?;
-    let set = blank.finish();
+    let set = packed(&mut words, &d)?;
     assert!(rt; set.trusted());
     assert!(rt; contains(&set, 70));
     assert!(rt; !contains(&set, 65));
@@ -74,19 +60,13 @@ fn a_packed_set_answers(rt: HostRuntime) -> Result<(), Fail> {
 #[test]
 fn emptied_blocks_are_not_stored(rt: HostRuntime) -> Result<(), Fail> {
     let (mut x, mut y) = ([0u64; 4_096], [0u64; 4_096]);
-    let mut a = Draft::new(&mut x, Config::SMALL);
-    let mut b = Draft::new(&mut y, Config::SMALL);
-    a.mark(0, 200)?;
-    b.mark(0, 128)?;
+    let a = marked(&mut x, [(0, 200)])?;
+    let b = marked(&mut y, [(0, 128)])?;
     let mut words = [0u64; 8];
-    let mut blank = Blank::new(&mut words);
-    blank.materialize(&a)?;
-    let first = blank.finish();
+    let first = packed(&mut words, &a)?;
     assert_eq!(rt; first.d(), 4);
     let mut more = [0u64; 8];
-    let mut other = Blank::new(&mut more);
-    other.materialize(&Without::new(&first, &b))?;
-    let rest = other.finish();
+    let rest = packed(&mut more, &Without::new(&first, &b))?;
     assert_eq!(rt; rest.d(), 2);
     assert_eq!(rt; next_from(&rest, 0), Some(128));
     Ok(())
@@ -95,15 +75,11 @@ fn emptied_blocks_are_not_stored(rt: HostRuntime) -> Result<(), Fail> {
 #[test]
 fn packed_again_and_in_layers(rt: HostRuntime) -> Result<(), Fail> {
     let mut marks = [0u64; 4_096];
-    let mut d = Draft::new(&mut marks, Config::SMALL);
-    mark_four(&mut d)?;
+    let d = marked_four(&mut marks)?;
     let (mut x, mut y) = ([0u64; 6], [0u64; 6]);
     {
-        let mut blank = Blank::new(&mut x);
-        blank.materialize(&d)?;
-        let set = blank.finish();
-        let mut again = Blank::new(&mut y);
-        again.materialize(&Either::new(&set, &set))?;
+        let set = packed(&mut x, &d)?;
+        let _ = packed(&mut y, &Either::new(&set, &set))?;
     }
     assert_eq!(rt; x, y);
     Ok(())
@@ -112,12 +88,9 @@ fn packed_again_and_in_layers(rt: HostRuntime) -> Result<(), Fail> {
 #[test]
 fn released_words_are_unfilled(rt: HostRuntime) -> Result<(), Fail> {
     let mut marks = [0u64; 4_096];
-    let mut d = Draft::new(&mut marks, Config::SMALL);
-    mark_four(&mut d)?;
+    let d = marked_four(&mut marks)?;
     let mut words = [0u64; 6];
-    let mut blank = Blank::new(&mut words);
-    blank.materialize(&d)?;
-    let empty = blank.finish().release().finish();
+    let empty = packed(&mut words, &d)?.release().finish();
     assert!(rt; empty.config().is_none());
     assert_eq!(rt; empty.n(), 0);
     assert_eq!(rt; next_from(&empty, 0), None);
@@ -146,9 +119,7 @@ fn the_largest_set(rt: HostRuntime) -> Result<(), Fail> {
     let mut words = vec![in heap; 0u64; 263_424]?;
     let mut d = Draft::new(marks.as_mut_slice(), Config::LARGE);
     d.mark(0, 16_777_216)?;
-    let mut blank = Blank::new(words.as_mut_slice());
-    blank.materialize(&d)?;
-    let set = blank.finish();
+    let set = packed(words.as_mut_slice(), &d)?;
     assert_eq!(rt; set.n(), 256);
     assert_eq!(rt; set.d(), 65_536);
     assert!(rt; contains(&set, 16_777_215));

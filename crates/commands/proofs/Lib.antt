@@ -1,2 +1,5 @@
+mod Commands
+mod Lines
 mod Spelled
+mod Verbs
 mod Widths

@@ -1,83 +1,85 @@
--- Texts that begin with a width, and texts of three of them.
-use Rattle.std.proofs.Common.{◌≡◌, ℕ, ◌-◌, ◌≤◌, List, [], ◌∷◌, ◌++◌, length, get_or, take, drop, sym, refl, ap, ◌∙◌, append-nil, arith}
-use Rattle.std.proofs.lemmas.Slice.{between_to_end}
+-- Texts of three widths with slashes between them, by their parts.
+use Rattle.std.proofs.Common.{◌≡◌, ◌≢◌, ℕ, Bool, true, false, not, List, [], ◌∷◌, ◌++◌, Option, Some, None, Bor, get_or, nat_eq, sym, refl, ap, ◌∙◌, append-nil, append_assoc, length, length-append, arith, rules}
+use Rattle.std.specs.List.{All, slice_split, join_with_byte}
+use Rattle.std.specs.Bool.{then_some}
+use Rattle.std.specs.Option.{MatchOption, is_some}
+use Rattle.std.specs.Iterator.{AlwaysYields}
+use Rattle.std.specs.Iterator.Runs.{Run, EachRunFrom}
+use Rattle.std.specs.Slice.Iter.{split_steps, split_rest, split_done, split_callee}
+use Rattle.std.specs.Fn.{CalledAt}
+use denote.Param.Members.{Mut}
+use Rattle.std.proofs.lemmas.Iterator.Splits.{YieldsList-from_slice_split}
+use Rattle.std.proofs.lemmas.List.Splits.{slice_split_at, slice_split_none, join_with_byte-slice_split}
 use Rattle.bit_block.specs.declared.config.Config.{Config}
 use Rattle.bit_block.specs.declared.config.Width.{Width}
 use Rattle.bit_block.specs.declared.config.Width.TheVariants.{W64, W128, W256}
 use Rattle.commands.specs.Operands.{width_text, config_text}
 
--- a list by its first elements and the rest, as a slice pattern reads it
-first_of : (s : List ℕ) → 1 ≤ length s → s ≡ get_or s 0 0 ∷ drop 1 s
-first_of [] l = absurd (omega arith)
-first_of (x ∷ xs) l = refl
+-- the parts of a text between its slashes
+abbrev pub parts : List ℕ → List (List ℕ)
+parts t = slice_split (λ b. nat_eq b 47) t
 
-second_of : (s : List ℕ) → 2 ≤ length s → s ≡ get_or s 0 0 ∷ (get_or s 1 0 ∷ drop 2 s)
-second_of [] l = absurd (omega arith)
-second_of (x ∷ []) l = absurd (omega arith)
-second_of (x ∷ (y ∷ xs)) l = refl
+-- no width has a slash
+no_slash : (w : Width) → All (λ b. nat_eq b 47 ≡ false) (width_text w)
+no_slash W64 = search rules
+no_slash W128 = search rules
+no_slash W256 = search rules
 
-third_of : (s : List ℕ) → 3 ≤ length s → s ≡ get_or s 0 0 ∷ (get_or s 1 0 ∷ (get_or s 2 0 ∷ drop 3 s))
-third_of [] l = absurd (omega arith)
-third_of (x ∷ []) l = absurd (omega arith)
-third_of (x ∷ (y ∷ [])) l = absurd (omega arith)
-third_of (x ∷ (y ∷ (z ∷ xs))) l = refl
+-- the texts of a configuration's widths
+abbrev pub width_texts : Config → List (List ℕ)
+width_texts c = width_text c.level0 ∷ (width_text c.level1 ∷ (width_text c.«data» ∷ []))
 
--- the rest as the pattern gives it
-rest_of : (s : List ℕ) (n : ℕ) → take (length s - n) (drop n s) ≡ drop n s
-rest_of s n = between_to_end s n (length s) (omega arith)
+-- three texts that are those of its widths
+pub three_texts : (x y z : List ℕ) (c : Config) → x ≡ width_text c.level0 → y ≡ width_text c.level1 → z ≡ width_text c.«data» → x ∷ (y ∷ (z ∷ [])) ≡ width_texts c
+three_texts x y z c first second third = cc
 
-pub begins_one : (s : List ℕ) (a : ℕ) → 1 ≤ length s → get_or s 0 0 ≡ a → s ≡ a ∷ take (length s - 1) (drop 1 s)
-begins_one s a l e =
-    first_of s l ∙ ap (λ (x : ℕ). x ∷ drop 1 s) e ∙ ap (λ (xs : List ℕ). a ∷ xs) (sym (rest_of s 1))
+-- the texts of its widths are the parts of its text
+parts-config_text : (c : Config) → parts (config_text c) ≡ width_texts c
+parts-config_text c =
+    slice_split_at _ (width_text c.level0) 47 _ (no_slash c.level0) refl
+    ∙ ap (λ ps. width_text c.level0 ∷ ps) (slice_split_at _ (width_text c.level1) 47 _ (no_slash c.level1) refl
+    ∙ ap (λ ps. width_text c.level1 ∷ ps) (slice_split_none _ (width_text c.«data») (no_slash c.«data»)))
 
-pub begins_two : (s : List ℕ) (a b : ℕ) → 2 ≤ length s → get_or s 0 0 ≡ a → get_or s 1 0 ≡ b → s ≡ a ∷ (b ∷ take (length s - 2) (drop 2 s))
-begins_two s a b l e f =
-    second_of s l ∙ ap (λ (x : ℕ). x ∷ (get_or s 1 0 ∷ drop 2 s)) e ∙ ap (λ (y : ℕ). a ∷ (y ∷ drop 2 s)) f
-    ∙ ap (λ (xs : List ℕ). a ∷ (b ∷ xs)) (sym (rest_of s 2))
+-- a text whose parts are three widths
+config_of_parts : (t : List ℕ) (c : Config) → parts t ≡ width_texts c → t ≡ config_text c
+config_of_parts t c h = sym (join_with_byte-slice_split 47 t) ∙ ap (λ ps. join_with_byte 47 ps) h
 
-pub begins_three : (s : List ℕ) (a b c : ℕ) → 3 ≤ length s → get_or s 0 0 ≡ a → get_or s 1 0 ≡ b → get_or s 2 0 ≡ c → s ≡ a ∷ (b ∷ (c ∷ take (length s - 3) (drop 3 s)))
-begins_three s a b c l e f g =
-    third_of s l ∙ ap (λ (x : ℕ). x ∷ (get_or s 1 0 ∷ (get_or s 2 0 ∷ drop 3 s))) e ∙ ap (λ (y : ℕ). a ∷ (y ∷ (get_or s 2 0 ∷ drop 3 s))) f
-    ∙ ap (λ (z : ℕ). a ∷ (b ∷ (z ∷ drop 3 s))) g ∙ ap (λ (xs : List ℕ). a ∷ (b ∷ (c ∷ xs))) (sym (rest_of s 3))
+-- an iterator over ys that has given some of them and is at s
+pub record HasGiven {S A B : Type 0} (steps : S → Option A → S → Type 0) (v : A → B) (ys : List B) (given : List B) (s : S) : Type 0 where
+  pub left : List B
+  pub is : ys ≡ given ++ left
+  pub gives : AlwaysYields steps v s left
 
--- no width begins another, so a text begins with one at most
-width_front : (v w : Width) (a b : List ℕ) → width_text v ++ a ≡ width_text w ++ b → a ≡ b
-width_front W64 W64 a b e = ap (λ (xs : List ℕ). drop 2 xs) e
-width_front W64 W128 a b e = let h : 54 ≡ 49 = ap (λ (xs : List ℕ). get_or xs 0 0) e in absurd (omega (arith, h))
-width_front W64 W256 a b e = let h : 54 ≡ 50 = ap (λ (xs : List ℕ). get_or xs 0 0) e in absurd (omega (arith, h))
-width_front W128 W64 a b e = let h : 49 ≡ 54 = ap (λ (xs : List ℕ). get_or xs 0 0) e in absurd (omega (arith, h))
-width_front W128 W128 a b e = ap (λ (xs : List ℕ). drop 3 xs) e
-width_front W128 W256 a b e = let h : 49 ≡ 50 = ap (λ (xs : List ℕ). get_or xs 0 0) e in absurd (omega (arith, h))
-width_front W256 W64 a b e = let h : 50 ≡ 54 = ap (λ (xs : List ℕ). get_or xs 0 0) e in absurd (omega (arith, h))
-width_front W256 W128 a b e = let h : 50 ≡ 49 = ap (λ (xs : List ℕ). get_or xs 0 0) e in absurd (omega (arith, h))
-width_front W256 W256 a b e = ap (λ (xs : List ℕ). drop 3 xs) e
+module _ {S A B : Type 0} {steps : S → Option A → S → Type 0} {v : A → B} {ys given : List B} {s : S} (now : HasGiven steps v ys given s) where
+  -- it gives one more
+  pub gives_one : (t : S) (x : A) → steps s (Some x) t → HasGiven steps v ys (given ++ v x ∷ []) t
+  gives_one t x h = elim now.left as (λ l. ys ≡ given ++ l → AlwaysYields steps v s l → HasGiven steps v ys (given ++ v x ∷ []) t) [
+    | [] ↦ λ is all. absurd (all x t h)
+    | y ∷ left ↦ λ is all. let p = all.1 x t h in
+        record { left = left; is = is ∙ ap (λ z. given ++ z ∷ left) (sym p.0) ∙ sym (append_assoc given (v x ∷ []) left); gives = p.1 }
+  ] now.is now.gives
 
-empty_of : (xs : List ℕ) → length xs ≡ 0 → xs ≡ []
-empty_of [] h = refl
-empty_of (x ∷ xs) h = absurd (omega (arith, h))
+  -- it gives no more
+  pub gives_none : (t : S) → steps s None t → ys ≡ given
+  gives_none t h = elim now.left as (λ l. ys ≡ given ++ l → AlwaysYields steps v s l → ys ≡ given) [
+    | [] ↦ λ is all. is ∙ append-nil given
+    | y ∷ left ↦ λ is all. absurd (all.0 t h)
+  ] now.is now.gives
 
--- a text that was read as two widths with a slash after each, and what is left
-module _ (t r0 s1 r1 s2 : List ℕ) (l0 l1 : Width) (e0 : t ≡ width_text l0 ++ r0) (e1 : r0 ≡ 47 ∷ s1) (e2 : s1 ≡ width_text l1 ++ r1) (e3 : r1 ≡ 47 ∷ s2) where
-  whole : t ≡ width_text l0 ++ 47 ∷ (width_text l1 ++ 47 ∷ s2)
-  whole =
-      e0 ∙ ap (λ (xs : List ℕ). width_text l0 ++ xs) e1 ∙ ap (λ (xs : List ℕ). width_text l0 ++ 47 ∷ xs) e2
-      ∙ ap (λ (xs : List ℕ). width_text l0 ++ 47 ∷ (width_text l1 ++ xs)) e3
+-- a split of a text at its slashes has given nothing
+pub begins_split : {F : Type 0} (g : Mut F (Bor ℕ × Unit {0}) Bool) (s : _) (f : F) (Q : Run (split_steps g) → Type 0) (t : List ℕ) → EachRunFrom (split_steps g) s Q → split_rest s ≡ t → split_done s ≡ false → split_callee s ≡ f → ((x : ℕ) (b : Bool) (q : F) → CalledAt g f x b q → (q ≡ f) × (b ≡ nat_eq x 47)) → HasGiven (split_steps g) (λ (x : Bor (List ℕ)). x.now) (parts t) [] s
+begins_split g s f Q t runs rest done closure tests = record { left = parts t; is = refl; gives = (YieldsList-from_slice_split g (λ b. nat_eq b 47) t rest done closure tests).runs }
 
-  -- what is left of the text of a configuration is the width of its data blocks
-  pub left_of : (c : Config) → t ≡ config_text c → s2 ≡ width_text c.«data»
-  left_of c e =
-      let outer = width_front l0 c.level0 (47 ∷ (width_text l1 ++ 47 ∷ s2)) (47 ∷ (width_text c.level1 ++ 47 ∷ width_text c.«data»)) (sym whole ∙ e) in
-      let inner = width_front l1 c.level1 (47 ∷ s2) (47 ∷ width_text c.«data») (ap (λ (xs : List ℕ). drop 1 xs) outer) in
-      ap (λ (xs : List ℕ). drop 1 xs) inner
+-- a split that has given some of the parts of a text
+module _ {S : Type 0} {steps : S → Option (Bor (List ℕ)) → S → Type 0} (t : List ℕ) {given : List (List ℕ)} {s : S} (now : HasGiven steps (λ (x : Bor (List ℕ)). x.now) (parts t) given s) where
+  -- each is a width of the configuration that the text spells
+  pub same_part : (c : Config) → t ≡ config_text c → (i : ℕ) → get_or (given ++ now.left) i [] ≡ get_or (width_texts c) i []
+  same_part c e i = ap (λ ps. get_or ps i []) (sym now.is ∙ ap parts e ∙ parts-config_text c)
 
-  module _ (d : Width) (r2 : List ℕ) (e4 : s2 ≡ width_text d ++ r2) where
-    -- a third width, and nothing after it
-    pub read_whole : length r2 ≡ 0 → t ≡ config_text (record { level0 = l0; level1 = l1; «data» = d })
-    read_whole h =
-        whole ∙ ap (λ (xs : List ℕ). width_text l0 ++ 47 ∷ (width_text l1 ++ 47 ∷ xs))
-        (e4 ∙ ap (λ (xs : List ℕ). width_text d ++ xs) (empty_of r2 h) ∙ append-nil (width_text d))
-
-    -- a third width, and more after it
-    pub read_more : (length r2 ≡ 0 → ⊥) → (c : Config) → t ≡ config_text c → ⊥
-    read_more h c e =
-        h (ap (λ (xs : List ℕ). length xs) (width_front d c.«data» r2 [] (sym e4 ∙ left_of c e ∙ sym (append-nil (width_text c.«data»)))))
+  -- where they are three widths, the text spells a configuration if nothing is left
+  pub ends_config : (c : Config) → given ≡ width_texts c → (next : Option (Bor (List ℕ))) (u : S) (last : Bool) → steps s next u → is_some next ≡ not last → MatchOption (then_some last c) ((k : Config) → t ≢ config_text k) (λ k. t ≡ config_text k)
+  ends_config c widths None u true h l = config_of_parts t c (gives_none now u h ∙ widths)
+  ends_config c widths None u false h l = absurd (cc l)
+  ends_config c widths (Some y) u true h l = absurd (cc l)
+  ends_config c widths (Some y) u false h l = λ k e.
+      omega (arith, length-append {A = List ℕ}, ap length (gives_one now u y h).is, ap length (ap parts e ∙ parts-config_text k), ap length widths)

@@ -1,1 +1,4 @@
+pub mod Commands
+pub mod Lines
 pub mod Operands
+pub mod Verbs

@@ -1,4 +1,7 @@
 // A line of a script as a command.
+ghost use Rattle.std.specs.Prelude.{IfErr, IfOk, MatchResult};
+ghost use Rattle.commands.specs.Commands.{SpellsCommand, SpellsDraft, SpellsPack, SpellsLayer};
+
 use crate::error::LineError;
 use crate::operand;
 use crate::verb::{Layer, Rule, Verb};
@@ -12,6 +15,24 @@ pub struct Span<'a> {
     pub to: usize,
 }
 
+impl<'a> TryFrom<[&'a [u8]; 3]> for Span<'a> {
+    ghost use Rattle.commands.specs.declared.command.Span.{Span};
+    ghost use Rattle.commands.specs.Commands.{SpellsSpan};
+
+    type Error = LineError<'a>;
+
+    ghost try_from_gives = { λ words r. MatchResult r (SpellsSpan words) (λ _. (s : Span) → SpellsSpan words s → ⊥) };
+
+    // A name and two numbers.
+    fn try_from([name, from, to]: [&'a [u8]; 3]) -> Result<Span<'a>, LineError<'a>> {
+        Ok(Span {
+            name: operand::name(name)?,
+            from: operand::number(from)?,
+            to: operand::number(to)?,
+        })
+    }
+}
+
 // A position of a named set.
 #[derive(Clone, Copy)]
 pub struct Place<'a> {
@@ -19,11 +40,45 @@ pub struct Place<'a> {
     pub position: usize,
 }
 
+impl<'a> TryFrom<[&'a [u8]; 2]> for Place<'a> {
+    ghost use Rattle.commands.specs.declared.command.Place.{Place};
+    ghost use Rattle.commands.specs.Commands.{SpellsPlace};
+
+    type Error = LineError<'a>;
+
+    ghost try_from_gives = { λ words r. MatchResult r (SpellsPlace words) (λ _. (s : Place) → SpellsPlace words s → ⊥) };
+
+    // A name and a number.
+    fn try_from([name, position]: [&'a [u8]; 2]) -> Result<Place<'a>, LineError<'a>> {
+        Ok(Place {
+            name: operand::name(name)?,
+            position: operand::number(position)?,
+        })
+    }
+}
+
 // Two named sets.
 #[derive(Clone, Copy)]
 pub struct Pair<'a> {
     pub first: &'a str,
     pub second: &'a str,
+}
+
+impl<'a> TryFrom<[&'a [u8]; 2]> for Pair<'a> {
+    ghost use Rattle.commands.specs.declared.command.Pair.{Pair};
+    ghost use Rattle.commands.specs.Commands.{SpellsPair};
+
+    type Error = LineError<'a>;
+
+    ghost try_from_gives = { λ words r. MatchResult r (SpellsPair words) (λ _. (s : Pair) → SpellsPair words s → ⊥) };
+
+    // Two names.
+    fn try_from([first, second]: [&'a [u8]; 2]) -> Result<Pair<'a>, LineError<'a>> {
+        Ok(Pair {
+            first: operand::name(first)?,
+            second: operand::name(second)?,
+        })
+    }
 }
 
 // A command with its operands.
@@ -54,28 +109,27 @@ pub enum Command<'a> {
 }
 
 // The command of a word and its operands.
-pub fn parse<'a>(word: &'a [u8], operands: &[&'a [u8]]) -> Result<Command<'a>, LineError<'a>> {
-    let Some(verb) = Verb::named(word) else {
-        return Err(LineError::UnknownCommand(word));
-    };
-    match (verb, operands) {
-        (Verb::Draft, [name, config]) => parse_draft(name, config, None),
-        (Verb::Draft, [name, config, words]) => parse_draft(name, config, Some(*words)),
-        (Verb::Mark, [name, from, to]) => Ok(Command::Mark(parse_span(name, from, to)?)),
-        (Verb::Clear, [name, from, to]) => Ok(Command::Clear(parse_span(name, from, to)?)),
-        (Verb::Layer(layer), [name, first, second]) => parse_layer(layer, name, first, second),
-        (Verb::Has, [name, position]) => Ok(Command::Has(parse_place(name, position)?)),
-        (Verb::Next, [name, position]) => Ok(Command::Next(parse_place(name, position)?)),
-        (Verb::Runs, [name]) => Ok(Command::Runs(operand::name(name)?)),
-        (Verb::Count, [name]) => Ok(Command::Count(operand::name(name)?)),
-        (Verb::Pack, [name]) => parse_pack(name, None),
-        (Verb::Pack, [name, words]) => parse_pack(name, Some(*words)),
-        (Verb::Words, [name]) => Ok(Command::Words(operand::name(name)?)),
-        (Verb::Check(rule), [first, second]) => Ok(Command::Check(
-            rule,
-            parse_pair(first, second)?,
-        )),
-        _ => Err(LineError::WordCount(verb)),
+pub fn parse<'a>(word: &'a [u8], operands: &[&'a [u8]]) -> Result<Command<'a>, LineError<'a>>
+    ensures ok { IfOk result (SpellsCommand word.now operands.now) }
+    ensures err { IfErr result (λ _. (c : Command) → SpellsCommand word.now operands.now c → ⊥) }
+{
+    match (Verb::try_from(word)?, operands) {
+        (Verb::Draft, &[name, config]) => parse_draft(name, config, None),
+        (Verb::Draft, &[name, config, words]) => parse_draft(name, config, Some(words)),
+        (Verb::Mark, &[name, from, to]) => Span::try_from([name, from, to]).map(Command::Mark),
+        (Verb::Clear, &[name, from, to]) => Span::try_from([name, from, to]).map(Command::Clear),
+        (Verb::Layer(layer), &[name, first, second]) => parse_layer(layer, name, [first, second]),
+        (Verb::Has, &[name, position]) => Place::try_from([name, position]).map(Command::Has),
+        (Verb::Next, &[name, position]) => Place::try_from([name, position]).map(Command::Next),
+        (Verb::Runs, &[name]) => operand::name(name).map(Command::Runs),
+        (Verb::Count, &[name]) => operand::name(name).map(Command::Count),
+        (Verb::Pack, &[name]) => parse_pack(name, None),
+        (Verb::Pack, &[name, words]) => parse_pack(name, Some(words)),
+        (Verb::Words, &[name]) => operand::name(name).map(Command::Words),
+        (Verb::Check(rule), &[first, second]) => {
+            Ok(Command::Check(rule, Pair::try_from([first, second])?))
+        }
+        (verb, _) => Err(LineError::WordCount(verb)),
     }
 }
 
@@ -84,65 +138,40 @@ fn parse_draft<'a>(
     name: &'a [u8],
     config: &'a [u8],
     words: Option<&'a [u8]>,
-) -> Result<Command<'a>, LineError<'a>> {
-    let name = operand::name(name)?;
-    let config = operand::config(config)?;
-    let words = parse_words(words)?;
+) -> Result<Command<'a>, LineError<'a>>
+    ensures ok { IfOk result (SpellsDraft name.entry config.entry words.entry) }
+    ensures err { IfErr result (λ _. (c : Command) → SpellsDraft name.entry config.entry words.entry c → ⊥) }
+{
     Ok(Command::Draft {
-        name,
-        config,
-        words,
+        name: operand::name(name)?,
+        config: operand::config(config)?,
+        words: words.map(operand::number).transpose()?,
     })
 }
 
 // The command that packs a set.
-fn parse_pack<'a>(name: &'a [u8], words: Option<&'a [u8]>) -> Result<Command<'a>, LineError<'a>> {
-    let name = operand::name(name)?;
-    let words = parse_words(words)?;
-    Ok(Command::Pack { name, words })
-}
-
-// A number of words, where one is given.
-fn parse_words<'a>(words: Option<&'a [u8]>) -> Result<Option<usize>, LineError<'a>> {
-    match words {
-        Some(word) => Ok(Some(operand::number(word)?)),
-        None => Ok(None),
-    }
+fn parse_pack<'a>(name: &'a [u8], words: Option<&'a [u8]>) -> Result<Command<'a>, LineError<'a>>
+    ensures ok { IfOk result (SpellsPack name.entry words.entry) }
+    ensures err { IfErr result (λ _. (c : Command) → SpellsPack name.entry words.entry c → ⊥) }
+{
+    Ok(Command::Pack {
+        name: operand::name(name)?,
+        words: words.map(operand::number).transpose()?,
+    })
 }
 
 // The command that lays one set over another.
 fn parse_layer<'a>(
     layer: Layer,
     name: &'a [u8],
-    first: &'a [u8],
-    second: &'a [u8],
-) -> Result<Command<'a>, LineError<'a>> {
-    let name = operand::name(name)?;
-    let over = parse_pair(first, second)?;
-    Ok(Command::Layer { layer, name, over })
-}
-
-// The operands of a command that changes a draft.
-fn parse_span<'a>(name: &'a [u8], from: &'a [u8], to: &'a [u8]) -> Result<Span<'a>, LineError<'a>> {
-    Ok(Span {
+    over: [&'a [u8]; 2],
+) -> Result<Command<'a>, LineError<'a>>
+    ensures ok { IfOk result (SpellsLayer layer name.entry over.entry) }
+    ensures err { IfErr result (λ _. (c : Command) → SpellsLayer layer name.entry over.entry c → ⊥) }
+{
+    Ok(Command::Layer {
+        layer,
         name: operand::name(name)?,
-        from: operand::number(from)?,
-        to: operand::number(to)?,
-    })
-}
-
-// The operands of a command that looks at a position.
-fn parse_place<'a>(name: &'a [u8], position: &'a [u8]) -> Result<Place<'a>, LineError<'a>> {
-    Ok(Place {
-        name: operand::name(name)?,
-        position: operand::number(position)?,
-    })
-}
-
-// The operands of a command on two sets.
-fn parse_pair<'a>(first: &'a [u8], second: &'a [u8]) -> Result<Pair<'a>, LineError<'a>> {
-    Ok(Pair {
-        first: operand::name(first)?,
-        second: operand::name(second)?,
+        over: Pair::try_from(over)?,
     })
 }

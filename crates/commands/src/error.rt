@@ -1,62 +1,27 @@
 // What is wrong with a line of a script.
 use crate::verb::Verb;
 use std::alloc::AllocError;
-use std::fmt;
+use thiserror::Error;
 
-#[derive(Clone, Copy)]
+#[derive(Clone, Copy, Debug, Error)]
 pub enum LineError<'a> {
+    #[error("unknown command '{}'", .0.escape_ascii())]
     UnknownCommand(&'a [u8]),
     // a command with too few or too many words
+    #[error("{0} takes {operands}", operands = .0.operands())]
     WordCount(Verb),
+    #[error("'{}' is not a number", .0.escape_ascii())]
     NotNumber(&'a [u8]),
+    #[error("'{}' passes 64 bits", .0.escape_ascii())]
     NumberTooLarge(&'a [u8]),
+    #[error("'{}' is not a CONFIG (small, book, large or W0/W1/WD)", .0.escape_ascii())]
     NotConfig(&'a [u8]),
+    #[error("'{}' is not a NAME (letters, digits, '-' and '_')", .0.escape_ascii())]
     NotName(&'a [u8]),
+    #[error("no set is named '{0}'")]
     NoSuchSet(&'a str),
+    #[error("'{0}' is not a draft")]
     NotDraft(&'a str),
-    OutOfMemory,
-}
-
-impl<'a> From<AllocError> for LineError<'a> {
-    // Want of memory is told as a bad line is.
-    fn from(_error: AllocError) -> LineError<'a> {
-        LineError::OutOfMemory
-    }
-}
-
-impl<'a> fmt::Display for LineError<'a> {
-    // The message, with the word at fault.
-    fn fmt<W: fmt::Write>(&self, f: &mut fmt::Formatter<W>) -> fmt::Result {
-        match *self {
-            LineError::UnknownCommand(word) => write!(
-                f,
-                "unknown command '{}'",
-                word.escape_ascii()
-            ),
-            LineError::WordCount(verb) => write!(f, "{} takes {}", verb.word(), verb.operands()),
-            LineError::NotNumber(word) => write!(f, "'{}' is not a number", word.escape_ascii()),
-            LineError::NumberTooLarge(word) => write!(
-                f,
-                "'{}' passes 64 bits",
-                word.escape_ascii()
-            ),
-            LineError::NotConfig(word) => {
-                write!(
-                    f,
-                    "'{}' is not a CONFIG (small, book, large or W0/W1/WD)",
-                    word.escape_ascii()
-                )
-            }
-            LineError::NotName(word) => {
-                write!(
-                    f,
-                    "'{}' is not a NAME (letters, digits, '-' and '_')",
-                    word.escape_ascii()
-                )
-            }
-            LineError::NoSuchSet(name) => write!(f, "no set is named '{name}'"),
-            LineError::NotDraft(name) => write!(f, "'{name}' is not a draft"),
-            LineError::OutOfMemory => write!(f, "out of memory"),
-        }
-    }
+    #[error("out of memory")]
+    OutOfMemory(#[from(alloc)] AllocError),
 }

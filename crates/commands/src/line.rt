@@ -1,37 +1,24 @@
 // Cutting a line of a script into its words.
+ghost use Rattle.std.specs.Prelude.{◌≡◌, IfOk, map};
+ghost use Rattle.commands.specs.Lines.{command_bytes, words_of};
+
 use std::alloc::{AllocError, Global};
 
 // The part of a line that is read: without its line end, a carriage return before that, and a comment.
-pub fn command_part(line: &[u8]) -> &[u8] {
+pub fn command_part(line: &[u8]) -> &[u8]
+    ensures { result.now ≡ command_bytes line.now }
+{
     let line = line.strip_suffix(b"\n").unwrap_or(line);
     let line = line.strip_suffix(b"\r").unwrap_or(line);
-    for (i, b) in line.iter().enumerate() {
-        if *b == b'#' {
-            return &line[0..i];
-        }
-    }
-    line
+    let end = line.iter().position(|b| *b == b'#').unwrap_or(line.len());
+    &line[..end]
 }
 
-// Whether a byte separates words.
-fn is_blank(b: u8) -> bool {
-    b == b' ' || b == b'\t'
-}
-
-// The words of a text, in order.
-pub fn words<'a>(heap: Global, text: &'a [u8]) -> Result<Vec<&'a [u8]>, AllocError> {
-    let mut found = Vec::new(heap);
-    let mut start = 0;
-    for (i, b) in text.iter().enumerate() {
-        if is_blank(*b) {
-            if start < i {
-                found.push(&text[start..i])?;
-            }
-            start = i + 1;
-        }
-    }
-    if start < text.len() {
-        found.push(&text[start..])?;
-    }
-    Ok(found)
+// The words of a text, in order: what stands between blanks and tabs.
+pub fn words<'a>(heap: Global, text: &'a [u8]) -> Result<Vec<&'a [u8]>, AllocError>
+    ensures { IfOk result (λ v. map (λ w. w.now) v.items ≡ words_of text.now) }
+{
+    text.split(|b| matches!(b, b' ' | b'\t'))
+        .filter(|word| !word.is_empty())
+        .collect(heap)
 }

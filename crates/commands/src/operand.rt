@@ -10,12 +10,7 @@ use bit_block::config::{Config, Width};
 fn is_decimal(word: &[u8]) -> bool
     ensures { MatchBool result (Decimal word.now) (Decimal word.now → ⊥) }
 {
-    for b in word {
-        if !b.is_ascii_digit() {
-            return false;
-        }
-    }
-    !word.is_empty()
+    !word.is_empty() && word.iter().all(|b| b.is_ascii_digit())
 }
 
 // A decimal number of at most 64 bits.
@@ -25,32 +20,18 @@ pub fn number<'a>(word: &'a [u8]) -> Result<usize, LineError<'a>>
     if !is_decimal(word) {
         return Err(LineError::NotNumber(word));
     }
-    let Ok(text) = std::str::from_utf8(word) else {
-        return Err(LineError::NotNumber(word));
-    };
-    match text.parse() {
-        Ok(value) => Ok(value),
-        Err(_) => Err(LineError::NumberTooLarge(word)),
-    }
+    let digits = std::str::from_utf8(word).unwrap();
+    digits.parse().map_err(|_| LineError::NumberTooLarge(word))
 }
 
-// Whether a byte may stand in a name.
-fn is_name_byte(b: u8) -> bool
-    ensures { result ≡ name_byte b }
-{
-    b.is_ascii_alphanumeric() || b == b'-' || b == b'_'
-}
-
-// Whether a word is one or more bytes of a name.
+// Whether a word is one or more letters, digits, hyphens and underscores.
 fn is_name(word: &[u8]) -> bool
     ensures { MatchBool result (Name word.now) (Name word.now → ⊥) }
 {
-    for b in word {
-        if !is_name_byte(*b) {
-            return false;
-        }
-    }
     !word.is_empty()
+        && word
+            .iter()
+            .all(|b| b.is_ascii_alphanumeric() || matches!(b, b'-' | b'_'))
 }
 
 // The name of a set.
@@ -60,30 +41,17 @@ pub fn name<'a>(word: &'a [u8]) -> Result<&'a str, LineError<'a>>
     if !is_name(word) {
         return Err(LineError::NotName(word));
     }
-    match std::str::from_utf8(word) {
-        Ok(text) => Ok(text),
-        Err(_) => Err(LineError::NotName(word)),
-    }
+    Ok(std::str::from_utf8(word).unwrap())
 }
 
-// The width that a text begins with, and what follows it.
-fn leading_width(text: &[u8]) -> Option<(Width, &[u8])>
-    ensures { MatchOption result ((w : Width) (rest : List ℕ) → text.now ≢ width_text w ++ rest) (λ p. text.now ≡ width_text p.0 ++ p.1.now) }
+// The width that a word spells.
+fn width(word: &[u8]) -> Option<Width>
+    ensures { MatchOption result ((w : Width) → word.now ≢ width_text w) (λ w. word.now ≡ width_text w) }
 {
-    match text {
-        [b'6', b'4', rest @ ..] => Some((Width::W64, rest)),
-        [b'1', b'2', b'8', rest @ ..] => Some((Width::W128, rest)),
-        [b'2', b'5', b'6', rest @ ..] => Some((Width::W256, rest)),
-        _ => None,
-    }
-}
-
-// What follows the slash that a text begins with.
-fn after_slash(text: &[u8]) -> Option<&[u8]>
-    ensures { MatchOption result ((rest : List ℕ) → text.now ≢ 47 ∷ rest) (λ rest. text.now ≡ 47 ∷ rest.now) }
-{
-    match text {
-        [b'/', rest @ ..] => Some(rest),
+    match word {
+        b"64" => Some(Width::W64),
+        b"128" => Some(Width::W128),
+        b"256" => Some(Width::W256),
         _ => None,
     }
 }
@@ -92,18 +60,15 @@ fn after_slash(text: &[u8]) -> Option<&[u8]>
 fn three_widths(text: &[u8]) -> Option<Config>
     ensures { MatchOption result ((c : Config) → text.now ≢ config_text c) (λ c. text.now ≡ config_text c) }
 {
-    let (level0, rest) = leading_width(text)?;
-    let (level1, rest) = leading_width(after_slash(rest)?)?;
-    let (data, rest) = leading_width(after_slash(rest)?)?;
-    if rest.is_empty() {
-        Some(Config {
-            level0,
-            level1,
-            data,
-        })
-    } else {
-        None
-    }
+    let mut parts = text.split(|b| *b == b'/');
+    let level0 = width(parts.next()?)?;
+    let level1 = width(parts.next()?)?;
+    let data = width(parts.next()?)?;
+    parts.next().is_none().then_some(Config {
+        level0,
+        level1,
+        data,
+    })
 }
 
 // A configuration, by its name or by its three widths.

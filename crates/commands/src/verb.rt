@@ -1,4 +1,9 @@
 // The commands: the word of each, what it takes and what it prints.
+ghost use Rattle.std.specs.Prelude.{◌≡◌, ◌≢◌, MatchResult};
+ghost use Rattle.commands.specs.Verbs.{layer_word, rule_word, verb_word};
+
+use crate::error::LineError;
+use std::fmt;
 
 #[derive(Clone, Copy, PartialEq, Eq, Debug)]
 pub enum Layer {
@@ -14,7 +19,9 @@ pub enum Layer {
 
 impl Layer {
     // The word that names the layer in a script.
-    pub fn word(self) -> &'static str {
+    pub fn word(self) -> &'static str
+        ensures { result.now ≡ layer_word self }
+    {
         match self {
             Layer::Both => "both",
             Layer::Either => "either",
@@ -51,7 +58,9 @@ pub enum Rule {
 
 impl Rule {
     // The word that names the rule in a script and in its answer.
-    pub fn word(self) -> &'static str {
+    pub fn word(self) -> &'static str
+        ensures { result.now ≡ rule_word self }
+    {
         match self {
             Rule::Emphasis => "emphasis",
             Rule::Languages => "languages",
@@ -82,6 +91,13 @@ impl Rule {
             Rule::Pages =>
                 "pages: holds, or pages: fails at A-B .. where the two differ, or refused: Void",
         }
+    }
+}
+
+impl fmt::Display for Rule {
+    // The word that names the rule.
+    fn fmt<W: fmt::Write>(&self, f: &mut fmt::Formatter<W>) -> fmt::Result {
+        f.write_str(self.word())
     }
 }
 
@@ -122,18 +138,10 @@ impl Verb {
         Verb::Check(Rule::Pages),
     ];
 
-    // The verb that a word names.
-    pub fn named(word: &[u8]) -> Option<Verb> {
-        for verb in Verb::ALL {
-            if verb.word().as_bytes() == word {
-                return Some(verb);
-            }
-        }
-        None
-    }
-
     // The word that begins the command.
-    pub fn word(self) -> &'static str {
+    pub fn word(self) -> &'static str
+        ensures { result.now ≡ verb_word self }
+    {
         match self {
             Verb::Draft => "draft",
             Verb::Mark => "mark",
@@ -179,5 +187,28 @@ impl Verb {
                 "the words that packing fills, 16 hex digits each, or none, or refused: Void",
             Verb::Check(rule) => rule.prints(),
         }
+    }
+}
+
+impl<'a> TryFrom<&'a [u8]> for Verb {
+    ghost use Rattle.commands.specs.declared.verb.Verb.{Verb};
+
+    type Error = LineError<'a>;
+
+    ghost try_from_gives = { λ word r. MatchResult r (λ verb. word.now ≡ verb_word verb) (λ _. (verb : Verb) → word.now ≢ verb_word verb) };
+
+    // The verb that a word names.
+    fn try_from(word: &'a [u8]) -> Result<Verb, LineError<'a>> {
+        Verb::ALL
+            .into_iter()
+            .find(|verb| verb.word().as_bytes() == word)
+            .ok_or(LineError::UnknownCommand(word))
+    }
+}
+
+impl fmt::Display for Verb {
+    // The word that begins the command.
+    fn fmt<W: fmt::Write>(&self, f: &mut fmt::Formatter<W>) -> fmt::Result {
+        f.write_str(self.word())
     }
 }

@@ -5,15 +5,15 @@ ghost use Rattle.certificate.specs.Faults.{fault};
 ghost use Rattle.stylebook.specs.Listed.{AllRuns};
 ghost use Rattle.stylebook.specs.Verdicts.{condition_of, Verdict};
 
-use crate::packed::pack;
+use crate::packed::{Packed, pack};
 use crate::refusal::{Declined, Refusal};
-use crate::sets::{NamedSet, Positions, Sets};
+use crate::sets::{Kind, Positions, Sets};
 use bit_block::config::Config;
 use bitset_interface::LevelMasks;
 use bitset_interface::walk::{contains, next_from};
 use certificate::conditions::{Condition, comparable};
 use certificate::runs::{Run, count_held, runs_of};
-use commands::command::{Command, Pair};
+use commands::command::{Command, Pair, Place, Span};
 use commands::error::LineError;
 use commands::verb::{Layer, Rule};
 use draft::{Draft, DraftView, words_needed};
@@ -30,8 +30,8 @@ pub enum Answer {
     Position(Option<usize>),
     Runs(Vec<Run>),
     Count(usize),
-    // the numbers of a packed set, and how many words it fills
-    Packed { n: u16, d: u32, words: usize },
+    // a packed set, of which the numbers are told, and how many words it fills
+    Packed(Packed),
     // the words that a packed set fills
     Words(Vec<u64>),
     // the runs at fault under a rule
@@ -39,63 +39,45 @@ pub enum Answer {
 }
 
 // Carries out a command. A refusal of the library is an answer.
-pub fn respond<'a>(
-    sets: &mut Sets,
-    heap: Global,
-    command: Command<'a>,
-) -> Result<Answer, LineError<'a>> {
-    match carry_out(sets, heap, command) {
-        Ok(answer) => Ok(answer),
-        Err(Declined::Refused(refusal)) => Ok(Answer::Refused(refusal)),
-        Err(Declined::BadLine(error)) => Err(error),
-    }
+pub fn respond<'a>(sets: &mut Sets, command: Command<'a>) -> Result<Answer, LineError<'a>> {
+    carry_out(sets, command).or_else(|declined| match declined {
+        Declined::Refused(refusal) => Ok(Answer::Refused(refusal)),
+        Declined::BadLine(error) => Err(error),
+    })
 }
 
 // Carries out a command.
-fn carry_out<'a>(
-    sets: &mut Sets,
-    heap: Global,
-    command: Command<'a>,
-) -> Result<Answer, Declined<'a>> {
+fn carry_out<'a>(sets: &mut Sets, command: Command<'a>) -> Result<Answer, Declined<'a>> {
+    let heap = sets.heap();
     match command {
         Command::Draft {
             name,
             config,
             words,
-        } => new_draft(sets, heap, name, config, words),
-        Command::Mark(span) => {
-            sets.draft(span.name)?.open().mark(span.from, span.to)?;
+        } => new_draft(sets, name, config, words),
+        Command::Mark(Span { name, from, to }) => {
+            sets.draft(name)?.mark(from, to).map_err(Refusal::from)?;
             Ok(Answer::Done)
         }
-        Command::Clear(span) => {
-            sets.draft(span.name)?.open().clear(span.from, span.to)?;
+        Command::Clear(Span { name, from, to }) => {
+            sets.draft(name)?.clear(from, to).map_err(Refusal::from)?;
             Ok(Answer::Done)
         }
-        Command::Layer { layer, name, over } => new_layer(sets, heap, layer, name, over),
-        Command::Has(place) => {
-            Ok(Answer::Held(contains(&sets.view(place.name)?, place.position)))
+        Command::Layer { layer, name, over } => new_layer(sets, layer, name, over),
+        Command::Has(Place { name, position }) => {
+            Ok(Answer::Held(contains(&sets.view(name)?, position)))
         }
-        Command::Next(place) => {
-            Ok(Answer::Position(next_from(&sets.view(place.name)?, place.position)))
+        Command::Next(Place { name, position }) => {
+            Ok(Answer::Position(next_from(&sets.view(name)?, position)))
         }
         Command::Runs(name) => Ok(Answer::Runs(runs(heap, &sets.view(name)?)?)),
         Command::Count(name) => Ok(Answer::Count(count_held(&sets.view(name)?))),
         Command::Pack { name, words } => {
-            let packed = pack(heap, &sets.view(name)?, words)?;
-            Ok(Answer::Packed {
-                n: packed.n,
-                d: packed.d,
-                words: packed.words.len(),
-            })
+            Ok(Answer::Packed(pack(heap, &sets.view(name)?, words)?))
         }
         Command::Words(name) => Ok(Answer::Words(pack(heap, &sets.view(name)?, None)?.words)),
-        Command::Check(rule, pair) => {
-            check(
-                heap,
-                rule,
-                &sets.view(pair.first)?,
-                &sets.view(pair.second)?,
-            )
+        Command::Check(rule, Pair { first, second }) => {
+            check(heap, rule, &sets.view(first)?, &sets.view(second)?)
         }
     }
 }
@@ -103,28 +85,28 @@ fn carry_out<'a>(
 // Makes a draft of so many words, or of as many as it takes; over too few it is void, and refused as such.
 fn new_draft<'a>(
     sets: &mut Sets,
-    heap: Global,
     name: &'a str,
     config: Config,
     words: Option<usize>,
 ) -> Result<Answer, Declined<'a>> {
     let words = words.unwrap_or(words_needed(config));
-    let positions = Positions::none(heap, config, words)?;
-    sets.put(heap, name, NamedSet::Draft(positions))?;
-    Draft::check(words, config)?;
+    let positions = Positions::none(sets.heap(), config, words)?;
+    sets.put(name, Kind::Draft, positions)?;
+    Draft::check(words, config).map_err(Refusal::from)?;
     Ok(Answer::Done)
 }
 
 // Puts the positions of a layer under a name.
 fn new_layer<'a>(
     sets: &mut Sets,
-    heap: Global,
     layer: Layer,
     name: &'a str,
     over: Pair<'a>,
 ) -> Result<Answer, Declined<'a>> {
-    let positions = laid(heap, layer, sets.view(over.first)?, sets.view(over.second)?)?;
-    sets.put(heap, name, NamedSet::Layer(positions))?;
+    let a = sets.view(over.first)?;
+    let b = sets.view(over.second)?;
+    let positions = laid(sets.heap(), layer, a, b)?;
+    sets.put(name, Kind::Layer, positions)?;
     Ok(Answer::Done)
 }
 
@@ -190,26 +172,30 @@ fn check<'n, A: LevelMasks, B: LevelMasks>(
     Ok(Answer::Faults(rule, faults(heap, condition(rule), a, b)?))
 }
 
-// Writes runs with blanks between them.
-fn write_runs<W: fmt::Write>(runs: &[Run], f: &mut fmt::Formatter<W>) -> fmt::Result {
-    for (i, run) in runs.iter().enumerate() {
+// Writes items with blanks between them.
+fn write_joined<T, W, F>(items: &[T], f: &mut fmt::Formatter<W>, write_item: F) -> fmt::Result
+where
+    W: fmt::Write,
+    F: Fn(&T, &mut fmt::Formatter<W>) -> fmt::Result,
+    requires { F.IsAlwaysCallable write_item }
+{
+    for (i, item) in items.iter().enumerate() {
         if i > 0 {
             write!(f, " ")?;
         }
-        write!(f, "{}-{}", run.from, run.to)?;
+        write_item(item, f)?;
     }
     Ok(())
 }
 
-// Writes words in hex with blanks between them.
+// Writes runs.
+fn write_runs<W: fmt::Write>(runs: &[Run], f: &mut fmt::Formatter<W>) -> fmt::Result {
+    write_joined(runs, f, |run, f| write!(f, "{}-{}", run.from, run.to))
+}
+
+// Writes words in hex.
 fn write_words<W: fmt::Write>(words: &[u64], f: &mut fmt::Formatter<W>) -> fmt::Result {
-    for (i, word) in words.iter().enumerate() {
-        if i > 0 {
-            write!(f, " ")?;
-        }
-        write!(f, "{word:016x}")?;
-    }
-    Ok(())
+    write_joined(words, f, |word, f| write!(f, "{word:016x}"))
 }
 
 impl fmt::Display for Answer {
@@ -223,19 +209,17 @@ impl fmt::Display for Answer {
             Answer::Position(Some(p)) => write!(f, "{p}"),
             Answer::Position(None) => write!(f, "none"),
             Answer::Runs(runs) if runs.is_empty() => write!(f, "none"),
-            Answer::Runs(runs) => write_runs(runs.as_slice(), f),
+            Answer::Runs(runs) => write_runs(runs, f),
             Answer::Count(count) => write!(f, "{count}"),
-            Answer::Packed { n, d, words } => write!(f, "packed: n {n}, d {d}, {words} words"),
+            Answer::Packed(Packed { n, d, words }) => {
+                write!(f, "packed: n {n}, d {d}, {} words", words.len())
+            }
             Answer::Words(words) if words.is_empty() => write!(f, "none"),
-            Answer::Words(words) => write_words(words.as_slice(), f),
-            Answer::Faults(rule, faults) if faults.is_empty() => write!(
-                f,
-                "{}: holds",
-                rule.word()
-            ),
+            Answer::Words(words) => write_words(words, f),
+            Answer::Faults(rule, faults) if faults.is_empty() => write!(f, "{rule}: holds"),
             Answer::Faults(rule, faults) => {
-                write!(f, "{}: fails at ", rule.word())?;
-                write_runs(faults.as_slice(), f)
+                write!(f, "{rule}: fails at ")?;
+                write_runs(faults, f)
             }
         }
     }

@@ -18,13 +18,7 @@ impl fmt::Display for Help {
         )?;
         writeln!(f, "Each command prints one line:")?;
         for verb in Verb::ALL {
-            writeln!(
-                f,
-                "  {} {}: {}",
-                verb.word(),
-                verb.operands(),
-                verb.prints()
-            )?;
+            writeln!(f, "  {verb} {}: {}", verb.operands(), verb.prints())?;
         }
         Ok(())
     }

@@ -1,5 +1,5 @@
 // Packing a named set into a blank.
-use crate::refusal::Declined;
+use crate::refusal::{Declined, Refusal};
 use crate::sets::zero_words;
 use bitset_interface::LevelMasks;
 use immutable_bitset::Blank;
@@ -20,27 +20,13 @@ pub fn pack<'n, S: LevelMasks>(
     source: &S,
     words: Option<usize>,
 ) -> Result<Packed, Declined<'n>> {
-    let most = match source.config() {
-        Some(config) => most_words(config),
-        None => 0,
-    };
+    let most = source.config().map_or(0, most_words);
     let mut words = zero_words(heap, words.unwrap_or(most))?;
-    let (n, d, used) = filled(words.as_mut_slice(), source)?;
+    let mut blank = Blank::new(words.as_mut_slice());
+    blank.materialize(source).map_err(Refusal::from)?;
+    let set = blank.finish();
+    let (n, d) = (set.n(), set.d());
+    let used = set.config().map_or(0, |config| words_needed(config, n, d));
     words.truncate(used);
     Ok(Packed { n, d, words })
-}
-
-// Fills lent words with a source; its numbers, and how many words it fills.
-fn filled<'n, S: LevelMasks>(
-    words: &mut [u64],
-    source: &S,
-) -> Result<(u16, u32, usize), Declined<'n>> {
-    let mut blank = Blank::new(words);
-    blank.materialize(source)?;
-    let set = blank.finish();
-    let used = match set.config() {
-        Some(config) => words_needed(config, set.n(), set.d()),
-        None => 0,
-    };
-    Ok((set.n(), set.d(), used))
 }

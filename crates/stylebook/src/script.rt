@@ -4,7 +4,7 @@ use crate::sets::Sets;
 use commands::command::parse;
 use commands::error::LineError;
 use commands::line::{command_part, words};
-use std::alloc::Global;
+use std::alloc::AllocError;
 use std::io::BufRead;
 use std::{fmt, io};
 
@@ -20,23 +20,18 @@ pub fn fail<D: fmt::Display + Drop>(rt: &HostRuntime, message: D) -> Failed {
 
 // Prints text in one write.
 pub fn print(rt: &HostRuntime, text: &str) -> Result<(), Failed> {
-    match rt.write_all(text.as_bytes()) {
-        Ok(()) => Ok(()),
-        Err(error) => Err(fail(rt, format_args!("standard output: {error}"))),
-    }
+    rt.write_all(text.as_bytes())
+        .map_err(|error| fail(rt, format_args!("standard output: {error}")))
 }
 
 // Carries out a line, and gives the line to print; none where the line has no command.
-fn answered<'a>(
-    heap: Global,
-    sets: &mut Sets,
-    line: &'a [u8],
-) -> Result<Option<String>, LineError<'a>> {
+fn answered<'a>(sets: &mut Sets, line: &'a [u8]) -> Result<Option<String>, LineError<'a>> {
+    let heap = sets.heap();
     let found = words(heap, command_part(line))?;
     match found.as_slice() {
         [] => Ok(None),
         [word, operands @ ..] => {
-            let answer = respond(sets, heap, parse(word, operands)?)?;
+            let answer = respond(sets, parse(word, operands)?)?;
             Ok(Some(format!(in heap; "{answer}\n")?))
         }
     }
@@ -44,7 +39,7 @@ fn answered<'a>(
 
 // Carries out the line of a number, and prints its answer.
 fn step(rt: &HostRuntime, sets: &mut Sets, number: u64, line: &[u8]) -> Result<(), Failed> {
-    match answered(rt.alloc(), sets, line) {
+    match answered(sets, line) {
         Ok(None) => Ok(()),
         Ok(Some(text)) => print(rt, text.as_str()),
         Err(error) => Err(fail(rt, format_args!("line {number}: {error}"))),
@@ -56,7 +51,7 @@ fn unread(rt: &HostRuntime, source: &str, number: u64, error: io::Error) -> Fail
     match error.kind() {
         io::ErrorKind::OutOfMemory => fail(
             rt,
-            format_args!("line {number}: {}", LineError::OutOfMemory),
+            format_args!("line {number}: {}", LineError::from(AllocError)),
         ),
         _ => fail(rt, format_args!("{source}: {error}")),
     }

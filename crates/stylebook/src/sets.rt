@@ -36,11 +36,9 @@ impl Positions {
 
     // The positions of a source as they are now.
     pub fn of<'n, S: LevelMasks>(heap: Global, source: &S) -> Result<Positions, Declined<'n>> {
-        let Some(config) = source.config() else {
-            return Err(Declined::Refused(Refusal::Void));
-        };
+        let config = source.config().ok_or(Refusal::Void)?;
         let mut positions = Positions::none(heap, config, words_needed(config))?;
-        mark_all(source, &mut positions.open())?;
+        mark_all(source, &mut positions.open()).map_err(Refusal::from)?;
         Ok(positions)
     }
 
@@ -55,27 +53,26 @@ impl Positions {
     }
 }
 
+// Whether a set can still be changed.
+#[derive(Clone, Copy, PartialEq, Eq, Debug)]
+pub enum Kind {
+    // a draft, which can
+    Draft,
+    // the positions that a layer had when it was made
+    Layer,
+}
+
 // What a name stands for.
 #[derive(Drop)]
-pub enum NamedSet {
-    // a draft, which can still be changed
-    Draft(Positions),
-    // the positions that a layer had when it was made
-    Layer(Positions),
+struct NamedSet {
+    kind: Kind,
+    positions: Positions,
 }
 
-impl NamedSet {
-    // The set to be read.
-    pub fn view(&self) -> DraftView<'_> {
-        match self {
-            NamedSet::Draft(positions) => positions.view(),
-            NamedSet::Layer(positions) => positions.view(),
-        }
-    }
-}
-
+// The sets by their names, and the memory that they are kept in.
 #[derive(Drop)]
 pub struct Sets {
+    heap: Global,
     by_name: BTreeMap<String, NamedSet>,
 }
 
@@ -83,33 +80,38 @@ impl Sets {
     // No set yet.
     pub fn new(heap: Global) -> Sets {
         Sets {
+            heap,
             by_name: BTreeMap::new(heap),
         }
     }
 
+    // The memory that sets are kept in.
+    pub fn heap(&self) -> Global {
+        self.heap
+    }
+
     // The set of a name, to be read.
     pub fn view<'n>(&self, name: &'n str) -> Result<DraftView<'_>, LineError<'n>> {
-        match self.by_name.get(name) {
-            Some(set) => Ok(set.view()),
-            None => Err(LineError::NoSuchSet(name)),
-        }
+        let set = self.by_name.get(name).ok_or(LineError::NoSuchSet(name))?;
+        Ok(set.positions.view())
     }
 
     // The draft of a name, to be changed.
-    pub fn draft<'n>(&mut self, name: &'n str) -> Result<&mut Positions, LineError<'n>> {
-        let Some(set) = self.by_name.get_mut(name) else {
-            return Err(LineError::NoSuchSet(name));
-        };
-        match set {
-            NamedSet::Draft(positions) => Ok(positions),
-            NamedSet::Layer(_) => Err(LineError::NotDraft(name)),
+    pub fn draft<'n>(&mut self, name: &'n str) -> Result<Draft<'_>, LineError<'n>> {
+        let set = self
+            .by_name
+            .get_mut(name)
+            .ok_or(LineError::NoSuchSet(name))?;
+        match set.kind {
+            Kind::Draft => Ok(set.positions.open()),
+            Kind::Layer => Err(LineError::NotDraft(name)),
         }
     }
 
-    // Puts a set under a name, in place of what the name stood for.
-    pub fn put(&mut self, heap: Global, name: &str, set: NamedSet) -> Result<(), AllocError> {
-        let key = String::from_str(heap, name)?;
-        self.by_name.insert(key, set)?;
+    // Puts positions under a name, in place of what the name stood for.
+    pub fn put(&mut self, name: &str, kind: Kind, positions: Positions) -> Result<(), AllocError> {
+        let key = String::from_str(self.heap, name)?;
+        self.by_name.insert(key, NamedSet { kind, positions })?;
         Ok(())
     }
 }

@@ -1,0 +1,179 @@
+-- Words that spell no command.
+use Rattle.std.proofs.Common.{◌≡◌, ℕ, ◌≤◌, List, [], ◌∷◌, length, get_or, Option, Some, Bor, Result, Ok, Err, arith, refl, ap, sym, subst, ◌∙◌}
+use Rattle.std.specs.List.{find}
+use Rattle.std.specs.Str.{bytes_eq}
+use Rattle.std.specs.Result.{IfErr, MatchResult, is_ok}
+use Rattle.commands.specs.declared.command.Command.{Command}
+use Rattle.commands.specs.declared.command.Command.TheVariants as command
+use Rattle.commands.specs.declared.command.Command.TheVariants.{Draft, Mark, Clear, Has, Next, Runs, Count, Pack, Words, Check}
+use Rattle.commands.specs.declared.command.Span.{Span}
+use Rattle.commands.specs.declared.command.Place.{Place}
+use Rattle.commands.specs.declared.command.Pair.{Pair}
+use Rattle.commands.specs.declared.verb.Layer.TheVariants.{Both, Either, Without, OneOf}
+use Rattle.commands.specs.declared.verb.Rule.{Rule}
+use Rattle.commands.specs.declared.verb.Rule.TheVariants.{Emphasis, Languages, Notes, Pages}
+use Rattle.commands.specs.declared.verb.Verb.{Verb}
+use Rattle.commands.specs.declared.verb.Verb.TheVariants as verb
+use Rattle.commands.specs.declared.verb.TheConstants.Verb.{ALL}
+use Rattle.commands.specs.Verbs.{verb_word}
+use Rattle.commands.specs.Commands.{SpellsSpan, SpellsPlace, SpellsPair, SpellsDraft, SpellsOperands, SpellsCommand}
+use Rattle.commands.specs.Operands.{Spells}
+use Rattle.bit_block.specs.declared.config.Config.{Config}
+
+-- the verb that a word names
+abbrev named : List ℕ → Option Verb
+named word = find (λ v. bytes_eq (verb_word v) word) ALL
+
+-- each verb has a word of its own
+named-verb_word : (v : Verb) → named (verb_word v) ≡ Some v
+named-verb_word verb.Draft = refl
+named-verb_word verb.Mark = refl
+named-verb_word verb.Clear = refl
+named-verb_word (verb.Layer Both) = refl
+named-verb_word (verb.Layer Either) = refl
+named-verb_word (verb.Layer Without) = refl
+named-verb_word (verb.Layer OneOf) = refl
+named-verb_word verb.Has = refl
+named-verb_word verb.Next = refl
+named-verb_word verb.Runs = refl
+named-verb_word verb.Count = refl
+named-verb_word verb.Pack = refl
+named-verb_word verb.Words = refl
+named-verb_word (verb.Check Emphasis) = refl
+named-verb_word (verb.Check Languages) = refl
+named-verb_word (verb.Check Notes) = refl
+named-verb_word (verb.Check Pages) = refl
+
+-- verbs of one word are one
+same_verb : (v w : Verb) → verb_word v ≡ verb_word w → v ≡ w
+same_verb v w e = let a = sym (named-verb_word v) ∙ ap named e ∙ named-verb_word w in cc
+
+-- where the operands spell no command of the verb that a word names, the two spell none
+pub of_verb : (word : List ℕ) (operands : List (Bor (List ℕ))) (v : Verb) → word ≡ verb_word v → ((c : Command) → SpellsOperands v operands c → ⊥) → (c : Command) → SpellsCommand word operands c → ⊥
+of_verb word operands v is none c (w, named, spells) =
+    let P : Verb → Type 0 = λ u. SpellsOperands u operands c in
+    none c (subst P (same_verb w v (sym named ∙ is)) spells)
+
+-- how few operands a verb takes
+abbrev pub fewest : Verb → ℕ
+fewest verb.Draft = 2
+fewest verb.Mark = 3
+fewest verb.Clear = 3
+fewest (verb.Layer l) = 3
+fewest verb.Has = 2
+fewest verb.Next = 2
+fewest verb.Runs = 1
+fewest verb.Count = 1
+fewest verb.Pack = 1
+fewest verb.Words = 1
+fewest (verb.Check r) = 2
+
+-- how many
+abbrev pub most : Verb → ℕ
+most verb.Draft = 3
+most verb.Mark = 3
+most verb.Clear = 3
+most (verb.Layer l) = 3
+most verb.Has = 2
+most verb.Next = 2
+most verb.Runs = 1
+most verb.Count = 1
+most verb.Pack = 2
+most verb.Words = 1
+most (verb.Check r) = 2
+
+-- a span has three operands
+span_count : (operands : List (Bor (List ℕ))) (s : Span) → SpellsSpan operands s → length operands ≡ 3
+span_count [] s h = absurd h
+span_count (a ∷ []) s h = absurd h
+span_count (a ∷ (b ∷ [])) s h = absurd h
+span_count (a ∷ (b ∷ (d ∷ []))) s h = refl
+span_count (a ∷ (b ∷ (d ∷ (e ∷ more)))) s h = absurd h
+
+-- a place has two
+place_count : (operands : List (Bor (List ℕ))) (s : Place) → SpellsPlace operands s → length operands ≡ 2
+place_count [] s h = absurd h
+place_count (a ∷ []) s h = absurd h
+place_count (a ∷ (b ∷ [])) s h = refl
+place_count (a ∷ (b ∷ (d ∷ more))) s h = absurd h
+
+-- a pair has two
+pair_count : (operands : List (Bor (List ℕ))) (s : Pair) → SpellsPair operands s → length operands ≡ 2
+pair_count [] s h = absurd h
+pair_count (a ∷ []) s h = absurd h
+pair_count (a ∷ (b ∷ [])) s h = refl
+pair_count (a ∷ (b ∷ (d ∷ more))) s h = absurd h
+
+-- what spells a command of a verb has as many operands as the verb takes
+pub operand_count : (v : Verb) (operands : List (Bor (List ℕ))) (c : Command) → SpellsOperands v operands c → (fewest v ≤ length operands) × (length operands ≤ most v)
+operand_count verb.Mark operands (Mark s) h = let n = span_count operands s h in (omega arith, omega arith)
+operand_count verb.Clear operands (Clear s) h = let n = span_count operands s h in (omega arith, omega arith)
+operand_count verb.Has operands (Has s) h = let n = place_count operands s h in (omega arith, omega arith)
+operand_count verb.Next operands (Next s) h = let n = place_count operands s h in (omega arith, omega arith)
+operand_count (verb.Check r) operands (Check q p) h = let n = pair_count operands p h.1 in (omega arith, omega arith)
+operand_count (verb.Layer l) (name ∷ over) (command.Layer m n p) h = let k = pair_count over p h.2 in (omega arith, omega arith)
+operand_count verb.Draft (a ∷ (b ∷ [])) c h = (omega arith, omega arith)
+operand_count verb.Draft (a ∷ (b ∷ (d ∷ []))) c h = (omega arith, omega arith)
+operand_count verb.Pack (a ∷ []) c h = (omega arith, omega arith)
+operand_count verb.Pack (a ∷ (b ∷ [])) c h = (omega arith, omega arith)
+operand_count verb.Runs (a ∷ []) c h = (omega arith, omega arith)
+operand_count verb.Count (a ∷ []) c h = (omega arith, omega arith)
+operand_count verb.Words (a ∷ []) c h = (omega arith, omega arith)
+operand_count v operands c h = absurd h
+
+-- what holds under any error
+pub IfErr-all : {T E : Type 0} (P : Type 0) (r : Result T E) → P → IfErr r (λ _. P)
+IfErr-all P (Ok x) h = tt
+IfErr-all P (Err e) h = h
+
+-- where a word is no configuration, the operands make no draft
+pub no_draft : (name config : Bor (List ℕ)) (words : Option (Bor (List ℕ))) → ((k : Config) → Spells config.now k → ⊥) → (c : Command) → SpellsDraft name config words c → ⊥
+no_draft name config words none (Draft n k w) h = none k h.1
+no_draft name config words none c h = h
+
+-- operands that are no span mark nothing
+pub no_mark : (operands : List (Bor (List ℕ))) → ((s : Span) → SpellsSpan operands s → ⊥) → (c : Command) → SpellsOperands verb.Mark operands c → ⊥
+no_mark operands none (Mark s) h = none s h
+no_mark operands none c h = h
+
+-- they clear nothing
+pub no_clear : (operands : List (Bor (List ℕ))) → ((s : Span) → SpellsSpan operands s → ⊥) → (c : Command) → SpellsOperands verb.Clear operands c → ⊥
+no_clear operands none (Clear s) h = none s h
+no_clear operands none c h = h
+
+-- operands that are no place ask of none
+pub no_has : (operands : List (Bor (List ℕ))) → ((s : Place) → SpellsPlace operands s → ⊥) → (c : Command) → SpellsOperands verb.Has operands c → ⊥
+no_has operands none (Has s) h = none s h
+no_has operands none c h = h
+
+-- they begin no search
+pub no_next : (operands : List (Bor (List ℕ))) → ((s : Place) → SpellsPlace operands s → ⊥) → (c : Command) → SpellsOperands verb.Next operands c → ⊥
+no_next operands none (Next s) h = none s h
+no_next operands none c h = h
+
+-- operands that are no pair put no rule
+pub no_check : (rule : Rule) (operands : List (Bor (List ℕ))) → ((s : Pair) → SpellsPair operands s → ⊥) → (c : Command) → SpellsOperands (verb.Check rule) operands c → ⊥
+no_check rule operands none (Check r p) h = none p h.1
+no_check rule operands none c h = h
+
+-- an error that a call passes on through `map`
+pub IfErr-map : {T D E : Type 0} (P Q : T → Type 0) (r : Result T E) (s : Result D E) → MatchResult r P (λ _. (x : T) → Q x → ⊥) → is_ok s ≡ is_ok r → IfErr s (λ _. (x : T) → Q x → ⊥)
+IfErr-map P Q (Ok x) (Ok y) h e = tt
+IfErr-map P Q (Ok x) (Err y) h e = absurd cc
+IfErr-map P Q (Err x) (Ok y) h e = tt
+IfErr-map P Q (Err x) (Err y) h e = h
+
+-- what holds of a list holds of its two elements
+pub at_two : {A : Type 0} (P : List A → Type 0) (xs : List A) (a b : A) → length xs ≡ 2 → P xs → P (get_or xs 0 a ∷ (get_or xs 1 b ∷ []))
+at_two P [] a b l h = absurd (omega arith)
+at_two P (x ∷ []) a b l h = absurd (omega arith)
+at_two P (x ∷ (y ∷ [])) a b l h = h
+at_two P (x ∷ (y ∷ (z ∷ xs))) a b l h = absurd (omega arith)
+
+-- or of its three
+pub at_three : {A : Type 0} (P : List A → Type 0) (xs : List A) (a b d : A) → length xs ≡ 3 → P xs → P (get_or xs 0 a ∷ (get_or xs 1 b ∷ (get_or xs 2 d ∷ [])))
+at_three P [] a b d l h = absurd (omega arith)
+at_three P (x ∷ []) a b d l h = absurd (omega arith)
+at_three P (x ∷ (y ∷ [])) a b d l h = absurd (omega arith)
+at_three P (x ∷ (y ∷ (z ∷ []))) a b d l h = h
+at_three P (x ∷ (y ∷ (z ∷ (w ∷ xs)))) a b d l h = absurd (omega arith)

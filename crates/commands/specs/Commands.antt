@@ -1,0 +1,79 @@
+-- What the operands of a command spell.
+use Rattle.std.specs.Prelude.{◌≡◌, ℕ, ◌^◌, ◌<◌, List, [], ◌∷◌, Option, Some, None}
+use Rattle.std.specs.Borrow.{Bor}
+use Rattle.commands.specs.declared.command.Command.{Command}
+use Rattle.commands.specs.declared.command.Command.TheVariants as command
+use Rattle.commands.specs.declared.command.Command.TheVariants.{Draft, Mark, Clear, Has, Next, Runs, Count, Pack, Words, Check}
+use Rattle.commands.specs.declared.verb.Layer.{Layer}
+use Rattle.commands.specs.declared.verb.Verb.{Verb}
+use Rattle.commands.specs.declared.verb.Verb.TheVariants as verb
+use Rattle.commands.specs.Verbs.{verb_word}
+use Rattle.commands.specs.declared.command.Span.{Span}
+use Rattle.commands.specs.declared.command.Place.{Place}
+use Rattle.commands.specs.declared.command.Pair.{Pair}
+use Rattle.commands.specs.Operands.{Decimal, decimal_value, Name, Spells}
+
+-- a word that is a name
+abbrev pub SpellsName : Bor (List ℕ) → List ℕ → Type 0
+SpellsName word name = (name ≡ word.now) × Name word.now
+
+-- a word that is a number of at most 64 bits
+abbrev pub SpellsNumber : Bor (List ℕ) → ℕ → Type 0
+SpellsNumber word n = Decimal word.now × (decimal_value word.now < 2 ^ 64) × (n ≡ decimal_value word.now)
+
+-- a name and the two ends of a span
+abbrev pub SpellsSpan : List (Bor (List ℕ)) → Span → Type 0
+SpellsSpan (name ∷ from ∷ to ∷ []) s = SpellsName name s.name.now × SpellsNumber from s.from × SpellsNumber to s.to
+SpellsSpan _ s = ⊥
+
+-- a name and a position
+abbrev pub SpellsPlace : List (Bor (List ℕ)) → Place → Type 0
+SpellsPlace (name ∷ position ∷ []) s = SpellsName name s.name.now × SpellsNumber position s.position
+SpellsPlace _ s = ⊥
+
+-- two names
+abbrev pub SpellsPair : List (Bor (List ℕ)) → Pair → Type 0
+SpellsPair (first ∷ second ∷ []) s = SpellsName first s.first.now × SpellsName second s.second.now
+SpellsPair _ s = ⊥
+
+-- a number of words, where one is given
+abbrev pub SpellsWords : Option (Bor (List ℕ)) → Option ℕ → Type 0
+SpellsWords None None = Unit {0}
+SpellsWords (Some word) (Some n) = SpellsNumber word n
+SpellsWords _ _ = ⊥
+
+-- the command that makes a draft
+abbrev pub SpellsDraft : Bor (List ℕ) → Bor (List ℕ) → Option (Bor (List ℕ)) → Command → Type 0
+SpellsDraft name config words (Draft n c k) = SpellsName name n.now × Spells config.now c × SpellsWords words k
+SpellsDraft _ _ _ _ = ⊥
+
+-- the command that packs a set
+abbrev pub SpellsPack : Bor (List ℕ) → Option (Bor (List ℕ)) → Command → Type 0
+SpellsPack name words (Pack n k) = SpellsName name n.now × SpellsWords words k
+SpellsPack _ _ _ = ⊥
+
+-- the command that lays one set over another
+abbrev pub SpellsLayer : Layer → Bor (List ℕ) → List (Bor (List ℕ)) → Command → Type 0
+SpellsLayer layer name over (command.Layer l n p) = (l ≡ layer) × SpellsName name n.now × SpellsPair over p
+SpellsLayer _ _ _ _ = ⊥
+
+-- the command of a verb and its operands
+abbrev pub SpellsOperands : Verb → List (Bor (List ℕ)) → Command → Type 0
+SpellsOperands verb.Draft (name ∷ config ∷ []) c = SpellsDraft name config None c
+SpellsOperands verb.Draft (name ∷ config ∷ words ∷ []) c = SpellsDraft name config (Some words) c
+SpellsOperands verb.Mark operands (Mark s) = SpellsSpan operands s
+SpellsOperands verb.Clear operands (Clear s) = SpellsSpan operands s
+SpellsOperands (verb.Layer layer) (name ∷ over) c = SpellsLayer layer name over c
+SpellsOperands verb.Has operands (Has p) = SpellsPlace operands p
+SpellsOperands verb.Next operands (Next p) = SpellsPlace operands p
+SpellsOperands verb.Runs (name ∷ []) (Runs n) = SpellsName name n.now
+SpellsOperands verb.Count (name ∷ []) (Count n) = SpellsName name n.now
+SpellsOperands verb.Pack (name ∷ []) c = SpellsPack name None c
+SpellsOperands verb.Pack (name ∷ words ∷ []) c = SpellsPack name (Some words) c
+SpellsOperands verb.Words (name ∷ []) (Words n) = SpellsName name n.now
+SpellsOperands (verb.Check rule) operands (Check r p) = (r ≡ rule) × SpellsPair operands p
+SpellsOperands _ _ _ = ⊥
+
+-- the command of a word and the operands behind it
+abbrev pub SpellsCommand : List ℕ → List (Bor (List ℕ)) → Command → Type 0
+SpellsCommand word operands c = (v : Verb) × (word ≡ verb_word v) × SpellsOperands v operands c
