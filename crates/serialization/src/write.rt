@@ -56,8 +56,7 @@ impl<'a> Packed<'a> {
         ensures long { length result.now ≡ self.now.numbers.d * kdof self.now.numbers }
         ensures is { result.now ≡ take (self.now.numbers.d * kdof self.now.numbers) (drop (len_of self.now.numbers + quarter (len_of self.now.numbers)) self.now.words.now) }
     {
-        let len = self.numbers.level1_len();
-        let start = len + len.div_ceil(4);
+        let start = self.numbers.data_start();
         let count = self.numbers.d as usize * self.numbers.data_words();
         &self.words[start..start + count]
     }
