@@ -63,11 +63,7 @@ impl<S: LevelMasks + Drop> Iterator for Runs<S> {
 pub fn count_held<S: LevelMasks>(s: &S) -> usize
     ensures { result ≡ count (holds (S.LevelMasks.means s.now)) (capacity (S.LevelMasks.means s.now).conf) }
 {
-    let mut held = 0;
-    for run in runs_of(s) {
-        held += run.to - run.from;
-    }
-    held
+    runs_of(s).map(|run| run.to - run.from).sum()
 }
 
 // Marks in the draft every position that the source holds; refused, with nothing marked, where the draft has fewer positions than the source.
