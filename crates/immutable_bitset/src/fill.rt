@@ -1,8 +1,7 @@
 // Filling a blank with what a source holds.
-ghost use Rattle.std.specs.Prelude.{◌≡◌, ℕ, ◌+◌, ◌*◌, ◌/◌, ◌<◌, ◌≤◌, Bool, true, false, length, take, is_ok, is_some};
+ghost use Rattle.std.specs.Prelude.{◌≡◌, ℕ, ◌+◌, ◌*◌, ◌<◌, ◌≤◌, Bool, length, take, is_ok, is_some};
 ghost use Rattle.bit_block.specs.Raised.{raised};
 ghost use Rattle.bit_block.specs.Ranges.{count};
-ghost use Rattle.bitset_interface.specs.Source.{Source};
 ghost use Rattle.packing.specs.Gathered.{words_of};
 ghost use Rattle.packing.specs.Packed.{held, chosen, data_words, before, start, four, quarter, start_words};
 ghost use Rattle.packing.specs.Fills.{all_words};
@@ -16,8 +15,8 @@ use crate::Blank;
 use crate::error::FillError;
 use bit_block::mask::Mask;
 use bitset_interface::LevelMasks;
-use packing::start_words::{pack_starts, start_words_len};
-use packing::{Found, Numbers, measure, words_needed};
+use packing::start_words::pack_starts;
+use packing::{Found, Numbers, measure, start_words_len, words_needed};
 
 // Writes the first k words of a mask from place `at` on, and answers the place after them.
 fn put_mask(words: &mut [u64], at: usize, mask: Mask, k: usize) -> usize

@@ -3,6 +3,7 @@ use Rattle.std.specs.Prelude.{ℕ, ◌+◌, ◌*◌, ◌/◌, Bool, cond, List, 
 use Rattle.bitset_interface.specs.Source.{Source}
 use Rattle.bit_block.specs.Ranges.{total, count}
 use Rattle.packing.specs.Gathered.{gather, words_of}
+use Rattle.packing.specs.StartWords.{four_of}
 
 -- whether block (i, j) holds a bit
 unfoldable pub held : Source → ℕ → ℕ → Bool
@@ -55,7 +56,7 @@ start xs m = cond (nat_lt m (length xs)) (before xs m) 0
 
 -- four starts to a word, the first in the most significant bits
 unfoldable pub four : List ℕ → ℕ → ℕ
-four xs m = ((start xs m * 65536 + start xs (m + 1)) * 65536 + start xs (m + 2)) * 65536 + start xs (m + 3)
+four xs m = four_of (start xs m ∷ start xs (m + 1) ∷ start xs (m + 2) ∷ start xs (m + 3) ∷ [])
 
 abbrev pub quarter : ℕ → ℕ
 quarter n = (n + 3) / 4

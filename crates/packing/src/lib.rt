@@ -3,16 +3,14 @@
 
 pub mod start_words;
 
-ghost use Rattle.std.specs.Prelude.{◌≡◌, ℕ, ◌+◌, ◌*◌, ◌/◌, ◌<◌, ◌≤◌, Bool, true, false, ◌&&◌, ◌||◌, ◌==◌, nat_lt, slice_index};
+ghost use Rattle.std.specs.Prelude.{◌≡◌, ℕ, ◌+◌, ◌*◌, ◌/◌, slice_index};
 ghost use Rattle.bit_block.specs.Raised.{raised};
 ghost use Rattle.bit_block.specs.Widths.{bits};
-ghost use Rattle.bitset_interface.specs.Source.{Source};
 ghost use Rattle.packing.specs.Packed.{held, quarter, needed};
 ghost use Rattle.packing.specs.Measures.{Measured, NumbersFound};
 ghost use Rattle.packing.specs.Meaning.{k1of, kdof, len_of};
 ghost use Rattle.packing.specs.Starts0.{start0};
 
-use crate::start_words::start_words_len;
 use bit_block::config::{Config, Width};
 use bit_block::mask::Mask;
 use bitset_interface::LevelMasks;
@@ -82,6 +80,13 @@ impl Found {
             d: self.d,
         }
     }
+}
+
+// How many words the starts of so many words take.
+pub fn start_words_len(len: usize) -> usize
+    ensures { result ≡ quarter len }
+{
+    len.div_ceil(4)
 }
 
 // How many words n level-1 masks, their starts and d blocks take.

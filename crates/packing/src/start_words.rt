@@ -1,6 +1,5 @@
 // Starts as they stand in a set's words: four to a word, the first in the most significant bits.
 ghost use Rattle.std.specs.Prelude.{◌≡◌};
-ghost use Rattle.packing.specs.Packed.{quarter};
 ghost use Rattle.packing.specs.StartWords.{four_of, field_in};
 
 // The word of four starts.
@@ -16,11 +15,4 @@ pub fn start_in(word: u64, m: usize) -> u16
     ensures { result ≡ field_in word m }
 {
     ((word >> (48 - 16 * (m % 4))) & 65535) as u16
-}
-
-// How many words the starts of so many words take.
-pub fn start_words_len(len: usize) -> usize
-    ensures { result ≡ quarter len }
-{
-    len.div_ceil(4)
 }
