@@ -4,8 +4,7 @@ use Rattle.std.specs.List.{find}
 use Rattle.std.specs.Str.{bytes_eq}
 use Rattle.std.specs.Result.{IfErr, MatchResult, is_ok}
 use Rattle.commands.specs.declared.command.Command.{Command}
-use Rattle.commands.specs.declared.command.Command.TheVariants as command
-use Rattle.commands.specs.declared.command.Command.TheVariants.{Draft, Mark, Clear, Has, Next, Runs, Count, Pack, Words, Check}
+use Rattle.commands.specs.declared.command.Command.TheVariants.{Draft, Mark, Clear, Has, Next, Check}
 use Rattle.commands.specs.declared.command.Span.{Span}
 use Rattle.commands.specs.declared.command.Place.{Place}
 use Rattle.commands.specs.declared.command.Pair.{Pair}
@@ -82,36 +81,14 @@ most verb.Pack = 2
 most verb.Words = 1
 most (verb.Check r) = 2
 
--- a span has three operands
-span_count : (operands : List (Bor (List ℕ))) (s : Span) → SpellsSpan operands s → length operands ≡ 3
-span_count [] s h = absurd h
-span_count (a ∷ []) s h = absurd h
-span_count (a ∷ (b ∷ [])) s h = absurd h
-span_count (a ∷ (b ∷ (d ∷ []))) s h = refl
-span_count (a ∷ (b ∷ (d ∷ (e ∷ more)))) s h = absurd h
-
--- a place has two
-place_count : (operands : List (Bor (List ℕ))) (s : Place) → SpellsPlace operands s → length operands ≡ 2
-place_count [] s h = absurd h
-place_count (a ∷ []) s h = absurd h
-place_count (a ∷ (b ∷ [])) s h = refl
-place_count (a ∷ (b ∷ (d ∷ more))) s h = absurd h
-
--- a pair has two
-pair_count : (operands : List (Bor (List ℕ))) (s : Pair) → SpellsPair operands s → length operands ≡ 2
-pair_count [] s h = absurd h
-pair_count (a ∷ []) s h = absurd h
-pair_count (a ∷ (b ∷ [])) s h = refl
-pair_count (a ∷ (b ∷ (d ∷ more))) s h = absurd h
-
 -- what spells a command of a verb has as many operands as the verb takes
 pub operand_count : (v : Verb) (operands : List (Bor (List ℕ))) (c : Command) → SpellsOperands v operands c → (fewest v ≤ length operands) × (length operands ≤ most v)
-operand_count verb.Mark operands (Mark s) h = let n = span_count operands s h in (omega arith, omega arith)
-operand_count verb.Clear operands (Clear s) h = let n = span_count operands s h in (omega arith, omega arith)
-operand_count verb.Has operands (Has s) h = let n = place_count operands s h in (omega arith, omega arith)
-operand_count verb.Next operands (Next s) h = let n = place_count operands s h in (omega arith, omega arith)
-operand_count (verb.Check r) operands (Check q p) h = let n = pair_count operands p h.1 in (omega arith, omega arith)
-operand_count (verb.Layer l) (name ∷ over) (command.Layer m n p) h = let k = pair_count over p h.2 in (omega arith, omega arith)
+operand_count verb.Mark (a ∷ (b ∷ (d ∷ []))) c h = (omega arith, omega arith)
+operand_count verb.Clear (a ∷ (b ∷ (d ∷ []))) c h = (omega arith, omega arith)
+operand_count (verb.Layer l) (a ∷ (b ∷ (d ∷ []))) c h = (omega arith, omega arith)
+operand_count verb.Has (a ∷ (b ∷ [])) c h = (omega arith, omega arith)
+operand_count verb.Next (a ∷ (b ∷ [])) c h = (omega arith, omega arith)
+operand_count (verb.Check r) (a ∷ (b ∷ [])) c h = (omega arith, omega arith)
 operand_count verb.Draft (a ∷ (b ∷ [])) c h = (omega arith, omega arith)
 operand_count verb.Draft (a ∷ (b ∷ (d ∷ []))) c h = (omega arith, omega arith)
 operand_count verb.Pack (a ∷ []) c h = (omega arith, omega arith)
@@ -133,28 +110,28 @@ no_draft name config words none c h = h
 
 -- operands that are no span mark nothing
 pub no_mark : (operands : List (Bor (List ℕ))) → ((s : Span) → SpellsSpan operands s → ⊥) → (c : Command) → SpellsOperands verb.Mark operands c → ⊥
-no_mark operands none (Mark s) h = none s h
-no_mark operands none c h = h
+no_mark (a ∷ (b ∷ (d ∷ []))) none (Mark s) h = none s h
+no_mark operands none c h = absurd h
 
 -- they clear nothing
 pub no_clear : (operands : List (Bor (List ℕ))) → ((s : Span) → SpellsSpan operands s → ⊥) → (c : Command) → SpellsOperands verb.Clear operands c → ⊥
-no_clear operands none (Clear s) h = none s h
-no_clear operands none c h = h
+no_clear (a ∷ (b ∷ (d ∷ []))) none (Clear s) h = none s h
+no_clear operands none c h = absurd h
 
 -- operands that are no place ask of none
 pub no_has : (operands : List (Bor (List ℕ))) → ((s : Place) → SpellsPlace operands s → ⊥) → (c : Command) → SpellsOperands verb.Has operands c → ⊥
-no_has operands none (Has s) h = none s h
-no_has operands none c h = h
+no_has (a ∷ (b ∷ [])) none (Has s) h = none s h
+no_has operands none c h = absurd h
 
 -- they begin no search
 pub no_next : (operands : List (Bor (List ℕ))) → ((s : Place) → SpellsPlace operands s → ⊥) → (c : Command) → SpellsOperands verb.Next operands c → ⊥
-no_next operands none (Next s) h = none s h
-no_next operands none c h = h
+no_next (a ∷ (b ∷ [])) none (Next s) h = none s h
+no_next operands none c h = absurd h
 
 -- operands that are no pair put no rule
 pub no_check : (rule : Rule) (operands : List (Bor (List ℕ))) → ((s : Pair) → SpellsPair operands s → ⊥) → (c : Command) → SpellsOperands (verb.Check rule) operands c → ⊥
-no_check rule operands none (Check r p) h = none p h.1
-no_check rule operands none c h = h
+no_check rule (a ∷ (b ∷ [])) none (Check r p) h = none p h.1
+no_check rule operands none c h = absurd h
 
 -- an error that a call passes on through `map`
 pub IfErr-map : {T D E : Type 0} (P Q : T → Type 0) (r : Result T E) (s : Result D E) → MatchResult r P (λ _. (x : T) → Q x → ⊥) → is_ok s ≡ is_ok r → IfErr s (λ _. (x : T) → Q x → ⊥)

@@ -61,17 +61,17 @@ SpellsLayer _ _ _ _ = ⊥
 abbrev pub SpellsOperands : Verb → List (Bor (List ℕ)) → Command → Type 0
 SpellsOperands verb.Draft (name ∷ config ∷ []) c = SpellsDraft name config None c
 SpellsOperands verb.Draft (name ∷ config ∷ words ∷ []) c = SpellsDraft name config (Some words) c
-SpellsOperands verb.Mark operands (Mark s) = SpellsSpan operands s
-SpellsOperands verb.Clear operands (Clear s) = SpellsSpan operands s
-SpellsOperands (verb.Layer layer) (name ∷ over) c = SpellsLayer layer name over c
-SpellsOperands verb.Has operands (Has p) = SpellsPlace operands p
-SpellsOperands verb.Next operands (Next p) = SpellsPlace operands p
+SpellsOperands verb.Mark (name ∷ from ∷ to ∷ []) (Mark s) = SpellsSpan (name ∷ from ∷ to ∷ []) s
+SpellsOperands verb.Clear (name ∷ from ∷ to ∷ []) (Clear s) = SpellsSpan (name ∷ from ∷ to ∷ []) s
+SpellsOperands (verb.Layer layer) (name ∷ first ∷ second ∷ []) c = SpellsLayer layer name (first ∷ second ∷ []) c
+SpellsOperands verb.Has (name ∷ position ∷ []) (Has p) = SpellsPlace (name ∷ position ∷ []) p
+SpellsOperands verb.Next (name ∷ position ∷ []) (Next p) = SpellsPlace (name ∷ position ∷ []) p
 SpellsOperands verb.Runs (name ∷ []) (Runs n) = SpellsName name n.now
 SpellsOperands verb.Count (name ∷ []) (Count n) = SpellsName name n.now
 SpellsOperands verb.Pack (name ∷ []) c = SpellsPack name None c
 SpellsOperands verb.Pack (name ∷ words ∷ []) c = SpellsPack name (Some words) c
 SpellsOperands verb.Words (name ∷ []) (Words n) = SpellsName name n.now
-SpellsOperands (verb.Check rule) operands (Check r p) = (r ≡ rule) × SpellsPair operands p
+SpellsOperands (verb.Check rule) (first ∷ second ∷ []) (Check r p) = (r ≡ rule) × SpellsPair (first ∷ second ∷ []) p
 SpellsOperands _ _ _ = ⊥
 
 -- the command of a word and the operands behind it

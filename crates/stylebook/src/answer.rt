@@ -48,7 +48,7 @@ pub fn respond<'a>(sets: &mut Sets, command: Command<'a>) -> Result<Answer, Line
 
 // Carries out a command.
 fn carry_out<'a>(sets: &mut Sets, command: Command<'a>) -> Result<Answer, Declined<'a>> {
-    let heap = sets.heap();
+    let heap = sets.heap;
     match command {
         Command::Draft {
             name,
@@ -90,7 +90,7 @@ fn new_draft<'a>(
     words: Option<usize>,
 ) -> Result<Answer, Declined<'a>> {
     let words = words.unwrap_or(words_needed(config));
-    let positions = Positions::none(sets.heap(), config, words)?;
+    let positions = Positions::none(sets.heap, config, words)?;
     sets.put(name, Kind::Draft, positions)?;
     Draft::check(words, config).map_err(Refusal::from)?;
     Ok(Answer::Done)
@@ -105,7 +105,7 @@ fn new_layer<'a>(
 ) -> Result<Answer, Declined<'a>> {
     let a = sets.view(over.first)?;
     let b = sets.view(over.second)?;
-    let positions = laid(sets.heap(), layer, a, b)?;
+    let positions = laid(sets.heap, layer, a, b)?;
     sets.put(name, Kind::Layer, positions)?;
     Ok(Answer::Done)
 }

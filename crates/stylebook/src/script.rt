@@ -26,7 +26,7 @@ pub fn print(rt: &HostRuntime, text: &str) -> Result<(), Failed> {
 
 // Carries out a line, and gives the line to print; none where the line has no command.
 fn answered<'a>(sets: &mut Sets, line: &'a [u8]) -> Result<Option<String>, LineError<'a>> {
-    let heap = sets.heap();
+    let heap = sets.heap;
     let found = words(heap, command_part(line))?;
     match found.as_slice() {
         [] => Ok(None),

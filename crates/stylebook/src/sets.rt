@@ -72,7 +72,7 @@ struct NamedSet {
 // The sets by their names, and the memory that they are kept in.
 #[derive(Drop)]
 pub struct Sets {
-    heap: Global,
+    pub heap: Global,
     by_name: BTreeMap<String, NamedSet>,
 }
 
@@ -83,11 +83,6 @@ impl Sets {
             heap,
             by_name: BTreeMap::new(heap),
         }
-    }
-
-    // The memory that sets are kept in.
-    pub fn heap(&self) -> Global {
-        self.heap
     }
 
     // The set of a name, to be read.
