@@ -7,6 +7,7 @@ ghost use Rattle.bitset_interface.specs.Source.{Source, holds};
 ghost use Rattle.draft.specs.Drafts.{stored, fitting};
 ghost use Rattle.bitset_interface.specs.Refusals.{unless};
 ghost use Rattle.draft.specs.Refusals.{refusal, bad_range};
+ghost use Rattle.draft.specs.Puts.{own, SameLoan};
 ghost use Rattle.certificate.specs.Runs.{RunFrom, Walks, Added};
 
 use crate::complement::Complement;
@@ -68,10 +69,9 @@ pub fn count_held<S: LevelMasks>(s: &S) -> usize
 
 // Marks in the draft every position that the source holds; refused, with nothing marked, where the draft has fewer positions than the source.
 pub fn mark_all<S: LevelMasks>(s: &S, draft: &mut Draft<'_>) -> Result<(), DraftError>
-    ensures refused { refusal result ≡ unless (nat_le (capacity (S.LevelMasks.means s.now).conf) (capacity (fitting draft.old.config (length draft.old.words.now)))) bad_range }
-    ensures added { Added (S.LevelMasks.means s.now) (capacity (fitting draft.old.config (length draft.old.words.now))) draft.old.words.now draft.new.words.now }
-    ensures config { draft.new.config ≡ draft.old.config }
-    ensures lender { draft.new.words.ghost_name ≡ draft.old.words.ghost_name }
+    ensures refused { refusal result ≡ unless (nat_le (capacity (S.LevelMasks.means s.now).conf) (capacity (own draft.old))) bad_range }
+    ensures added { Added (S.LevelMasks.means s.now) (capacity (own draft.old)) draft.old.words.now draft.new.words.now }
+    ensures loan { SameLoan draft.old draft.new }
 {
     if capacity_of(s) > capacity_of(draft) {
         return Err(DraftError::BadRange);

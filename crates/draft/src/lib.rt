@@ -142,6 +142,8 @@ fn write_span(words: &mut [u64], from: usize, to: usize, on: bool)
 }
 
 impl<'a> Draft<'a> {
+    ghost use Rattle.draft.specs.Puts.{Puts};
+
     // Whether so many words are enough for a draft.
     pub fn check(words: usize, config: Config) -> Result<(), DraftError>
         ensures { refusal result ≡ unless (nat_le (draft_words config) words) no_words }
@@ -176,10 +178,7 @@ impl<'a> Draft<'a> {
 
     // Sets the bits of from..to, where that is a range of the draft.
     fn put(&mut self, from: usize, to: usize, on: bool) -> Result<(), DraftError>
-        ensures refused { refusal result ≡ unless (good_range (fitting self.old.config (length self.old.words.now)) from to) bad_range }
-        ensures sets { Sets on (fitting self.old.config (length self.old.words.now)) from to self.old.words.now self.new.words.now }
-        ensures config { self.new.config ≡ self.old.config }
-        ensures lender { self.new.words.ghost_name ≡ self.old.words.ghost_name }
+        ensures { Puts on from to self.old result self.new }
     {
         let end = capacity_of(&self.view());
         if from > to || to > end {
@@ -191,20 +190,14 @@ impl<'a> Draft<'a> {
 
     // Marks the positions from..to.
     pub fn mark(&mut self, from: usize, to: usize) -> Result<(), DraftError>
-        ensures refused { refusal result ≡ unless (good_range (fitting self.old.config (length self.old.words.now)) from to) bad_range }
-        ensures sets { Sets true (fitting self.old.config (length self.old.words.now)) from to self.old.words.now self.new.words.now }
-        ensures config { self.new.config ≡ self.old.config }
-        ensures lender { self.new.words.ghost_name ≡ self.old.words.ghost_name }
+        ensures { Puts true from to self.old result self.new }
     {
         self.put(from, to, true)
     }
 
     // Clears the positions from..to.
     pub fn clear(&mut self, from: usize, to: usize) -> Result<(), DraftError>
-        ensures refused { refusal result ≡ unless (good_range (fitting self.old.config (length self.old.words.now)) from to) bad_range }
-        ensures sets { Sets false (fitting self.old.config (length self.old.words.now)) from to self.old.words.now self.new.words.now }
-        ensures config { self.new.config ≡ self.old.config }
-        ensures lender { self.new.words.ghost_name ≡ self.old.words.ghost_name }
+        ensures { Puts false from to self.old result self.new }
     {
         self.put(from, to, false)
     }

@@ -28,8 +28,8 @@ loop-run-preserved g c =
       tt,
       tt,
       cc,
-      c.mark.ensures.config ∙ c.loop-run.invariant.3,
-      c.mark.ensures.lender ∙ c.loop-run.invariant.4,
+      c.mark.ensures.loan.config ∙ c.loop-run.invariant.3,
+      c.mark.ensures.loan.lender ∙ c.loop-run.invariant.4,
       rw c.in-Some.ensures.steps.reached
           (part_more (g.S.LevelMasks.means c.args.s.now) c.args.draft.now.words.now c.loop-run.run-iterator.at c.in-Some.run' c.loop-run.draft.words.now c.mark.new.self.words.now
           (first g turn) c.loop-run.invariant.5 (rw (good g turn) at c.mark.ensures.sets)),
