@@ -1,7 +1,7 @@
 // The operands of commands: numbers, names and configurations.
-ghost use Rattle.std.specs.Prelude.{◌≡◌, ℕ, ◌^◌, ◌<◌, List, ◌∷◌, ◌++◌, MatchBool, MatchOption, MatchResult, ◌≢◌};
+ghost use Rattle.std.specs.Prelude.{◌≡◌, ◌^◌, ◌<◌, MatchBool, MatchOption, MatchResult, ◌≢◌};
 ghost use Rattle.std.specs.Result.{OkIff};
-ghost use Rattle.commands.specs.Operands.{Decimal, decimal_value, name_byte, Name, width_text, config_text, Spells};
+ghost use Rattle.commands.specs.Operands.{Decimal, decimal_value, Name, width_text, config_text, Spells};
 
 use crate::error::LineError;
 use bit_block::config::{Config, Width};
