@@ -93,7 +93,7 @@ impl<'a> ImmutableBitset<'a> {
 impl LevelMasks for ImmutableBitset<'_> {
     ghost means = { λ s. set_source s.blank.numbers s.blank.words.now };
 
-    ghost lawful = { λ s. set_lawful s.blank.numbers s.blank.words.now s.blank.sound };
+    ghost lawful = { λ s. set_lawful s.blank.numbers s.blank.words.now (λ m e. (s.blank.sound m e).wide) (λ m e. (s.blank.sound m e).rows_held) (λ m e. (s.blank.sound m e).blocks_held) };
 
     fn config(&self) -> Option<Config> {
         self.blank.numbers.map(|numbers| numbers.config)

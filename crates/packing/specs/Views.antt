@@ -7,7 +7,7 @@ use Rattle.bit_block.specs.Raised.{raised}
 use Rattle.bit_block.specs.Ranges.{total, count}
 use Rattle.bitset_interface.specs.Source.{Source, Lawful}
 use Rattle.packing.specs.declared.Numbers.{Numbers}
-use Rattle.packing.specs.Meaning.{k1of, kdof, k1-whole, kd-whole, held_at, up_at, Sound}
+use Rattle.packing.specs.Meaning.{k1of, kdof, k1-whole, kd-whole, held_at, up_at, Wide, RowsHeld, BlocksHeld}
 
 find_one : (f : ℕ → Bool) (n : ℕ) → 0 < total (λ t. cond (f t) 1 0) n → (t : ℕ) × (f t ≡ true)
 unfolding total
@@ -34,16 +34,16 @@ set_source (Some m) ws = viewed m ws
 set_source None ws = nothing
 
 -- they are lawful
-pub viewed_lawful : (m : Numbers) (ws : List ℕ) → Sound m ws → Lawful (viewed m ws)
+pub viewed_lawful : (m : Numbers) (ws : List ℕ) → Wide m → RowsHeld m ws → BlocksHeld m ws → Lawful (viewed m ws)
 unfolding held_at
-viewed_lawful m ws sound = record {
-  below0 = sound.wide;
+viewed_lawful m ws w r b = record {
+  below0 = w;
   below1 = λ i j e. subst (λ (n : ℕ). j < n) (sym (k1-whole m).0) (ltb-true j (k1of m * 64) (and_parts (nat_lt j (k1of m * 64)) _ (and_parts (raised m.level0 i) _ e).1).0);
   below2 = λ i j t e. subst (λ (n : ℕ). t < n) (sym (kd-whole m).0) (ltb-true t (kdof m * 64) (and_parts (nat_lt t (kdof m * 64)) _ (and_parts (held_at m ws i j) _ e).1).0);
   under1 = λ i j e. (and_parts (raised m.level0 i) _ e).0;
   under2 = λ i j t e. (and_parts (held_at m ws i j) _ e).0;
-  full0 = λ i _ e. found (held_at m ws i) (sound.rows_held i e);
-  full1 = λ i j _ e. found (up_at m ws i j) (sound.blocks_held i j e);
+  full0 = λ i _ e. found (held_at m ws i) (r i e);
+  full1 = λ i j _ e. found (up_at m ws i j) (b i j e);
 }
 
 nothing_lawful : Lawful nothing
@@ -57,6 +57,7 @@ nothing_lawful = record {
   full1 = λ i j t e. absurd (false≢true t);
 }
 
-pub set_lawful : (numbers : Option Numbers) (ws : List ℕ) → ForSome numbers (λ m. Sound m ws) → Lawful (set_source numbers ws)
-set_lawful (Some m) ws sound = viewed_lawful m ws (sound m refl)
-set_lawful None ws _ = nothing_lawful
+pub set_lawful : (numbers : Option Numbers) (ws : List ℕ) → ForSome numbers Wide → ForSome numbers (λ m. RowsHeld m ws) → ForSome numbers (λ m. BlocksHeld m ws)
+    → Lawful (set_source numbers ws)
+set_lawful (Some m) ws w r b = viewed_lawful m ws (w m refl) (r m refl) (b m refl)
+set_lawful None ws w r b = nothing_lawful

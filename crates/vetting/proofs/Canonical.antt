@@ -46,7 +46,7 @@ module _ (s t : Source) (ls : Lawful s) (lt : Lawful t) (ts : s.trust ≡ true) 
 
 -- a set is a lawful source
 lawful : (m : Numbers) (ws : List ℕ) → Sound m ws → Lawful (viewed m ws)
-lawful = viewed_lawful
+lawful m ws sound = viewed_lawful m ws sound.wide sound.rows_held sound.blocks_held
 
 module _ (m : Numbers) (ws : List ℕ) (k : Numbers) (vs : List ℕ) (fm : Words64 ws) (fk : Words64 vs)
     (sm : Sound m ws) (sk : Sound k vs) (conf : m.config ≡ k.config) (same : SamePositions m ws k vs) where
