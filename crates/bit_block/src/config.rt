@@ -62,7 +62,7 @@ impl Config {
         self.level0.bits() * (self.level1.bits() * self.data.bits())
     }
 
-    // The level-0 index, the level-1 index and the bit of position p.
+    // The level-0 index, the level-1 index and the bit of position p: three numbers, as the calls for masks take them.
     pub fn level_indices(self, p: usize) -> (usize, usize, usize)
         ensures level0 { result.0 ≡ index0 (Some self) p }
         ensures level1 { result.1 ≡ index1 (Some self) p }

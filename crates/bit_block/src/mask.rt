@@ -1,4 +1,5 @@
-// A mask of up to 256 bits: an array of words that is passed and returned by value.
+// A mask of up to 256 bits: an array of words that is passed and returned by value, four of them whatever the width, since
+// this crate has no heap.
 ghost use Rattle.std.specs.Prelude.{◌≡◌, ℕ, ◌+◌, ◌*◌, ◌/◌, ◌%◌, ◌^◌, ◌<◌, ◌≤◌, Bool, true, false, not, ◌&&◌, ◌||◌, ◌==◌, nat_lt, slice_index, length, sum_by, count_ones, position, drop};
 ghost use Rattle.bit_block.specs.Bit.{bit_of, exclusive, Least};
 ghost use Rattle.bit_block.specs.Ranges.{count};

@@ -120,7 +120,8 @@ fn span(w: usize, from: usize, to: usize) -> u64
     high & !low
 }
 
-// The word with the bits that `part` raises set to `on`.
+// The word with the bits that `part` raises set to `on`. It is the value that the bits get, and the contract needs that
+// value: a closure for each of the two would have to be given it as well.
 fn splice(word: u64, part: u64, on: bool) -> u64
     ensures { (k : ℕ) → k < 64 → bit_of result k ≡ (if bit_of part k then on else bit_of word k) }
 {
@@ -176,7 +177,7 @@ impl<'a> Draft<'a> {
         DraftView::new(self.words, self.config)
     }
 
-    // Sets the bits of from..to, where that is a range of the draft.
+    // Sets the bits of from..to, where that is a range of the draft. The two stay numbers: each clause takes them apart.
     fn put(&mut self, from: usize, to: usize, on: bool) -> Result<(), DraftError>
         ensures { Puts on from to self.old result self.new }
     {

@@ -18,7 +18,8 @@ use bitset_interface::LevelMasks;
 use packing::start_words::pack_starts;
 use packing::{Found, Numbers, measure, start_words_len, words_needed};
 
-// Writes the first k words of a mask from place `at` on, and answers the place after them.
+// Writes the first k words of a mask from place `at` on, and answers the place after them. k stays a number, as the
+// definitions have it.
 fn put_mask(words: &mut [u64], at: usize, mask: Mask, k: usize) -> usize
     requires small { k ≤ 4 }
     requires fits { at + k ≤ length words.old }
@@ -86,6 +87,7 @@ fn put_starts(words: &mut [u64], len: usize) -> usize
 {
     let mut sum = 0;
     let count = start_words_len(len);
+    // one slice, in which words behind `len` are written while those before it are read
     for q in 0..count {
         let (word, next) = start_word(&words[..len], 4 * q, sum);
         words[len + q] = word;

@@ -17,7 +17,7 @@ use bitset_interface::LevelMasks;
 use std::array;
 
 // The numbers of a packed set, beside its words: n counts the level-1 masks, d the data blocks, and `starts` has for
-// each word of the level-0 mask the raised bits in the words before it.
+// each word of the level-0 mask the raised bits in the words before it; eight of them, as an image has them.
 #[derive(Clone, Copy)]
 pub struct Numbers {
     pub config: Config,
@@ -58,7 +58,8 @@ impl Numbers {
     }
 }
 
-// What a walk over a source finds: which rows hold something, which blocks of each row do, and how many.
+// What a walk over a source finds: which rows hold something, which blocks of each row do, and how many. A place for each
+// row there may be: this crate has no heap.
 #[derive(Clone, Copy)]
 pub struct Found {
     pub level0: Mask,

@@ -19,6 +19,7 @@ pub trait LittleEndian<const N: usize>: Copy {
     ghost small: { N ≤ 8 };
 }
 
+// An implementation for each width is written out: one by a macro of the repository is refused.
 impl LittleEndian<1> for u8 {
     ghost number = { λ x. x };
 

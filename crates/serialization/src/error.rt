@@ -36,7 +36,7 @@ pub enum AccessError {
 impl From<ReadFault> for AccessError {
     ghost from_gives = { λ e r. r ≡ IOError e };
 
-    // A reader's fault is carried whole.
+    // A reader's fault is carried whole. By hand, since a clause names the error.
     fn from(fault: ReadFault) -> AccessError {
         AccessError::IOError(fault)
     }

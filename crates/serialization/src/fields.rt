@@ -66,7 +66,7 @@ pub fn read_mask<R: Reader>(reader: &mut R, width: Width) -> Result<Mask, ReadFa
     ensures took { Took (one (size width) ∷ []) (R.Reader.means reader.old) (faulted result) (R.Reader.means reader.new) }
     ensures gives { Gives result (λ m. m.words ≡ mask_in width (R.Reader.means reader.old).front.bytes) }
 {
-    let mut bytes = [0; 32];
+    let mut bytes = [0; 32]; // room for the widest mask: no heap
     reader.read_exact(&mut bytes[..mask_size(width)])?;
     Ok(Mask {
         words: words_of(&bytes),
@@ -77,7 +77,7 @@ pub fn read_mask<R: Reader>(reader: &mut R, width: Width) -> Result<Mask, ReadFa
 pub fn skip_padding<R: Reader>(reader: &mut R, width: Width, at: usize) -> Result<(), ReadFault>
     ensures { Took (one (padding (size width) at) ∷ []) (R.Reader.means reader.old) (faulted result) (R.Reader.means reader.new) }
 {
-    let mut bytes = [0; 32];
+    let mut bytes = [0; 32]; // room for the widest mask: no heap
     reader.read_exact(&mut bytes[..padding_for(width, at)])
 }
 

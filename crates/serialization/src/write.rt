@@ -93,7 +93,7 @@ impl Cursor<'_> {
         requires { self.old.at + padding (size width) self.old.at ≤ length self.old.buffer.now }
         ensures { Puts self.old self.new (replicate (padding (size width) self.old.at) 0) }
     {
-        let zeros = [0; 32];
+        let zeros = [0; 32]; // as many as the widest mask has: no heap
         self.put_bytes(&zeros[..padding_for(width, self.at)]);
     }
 
@@ -113,6 +113,7 @@ impl Cursor<'_> {
         requires fits { self.old.at + count * 2 ≤ length self.old.buffer.now }
         ensures { Puts self.old self.new (laid 2 (gather (λ q. field_at words.now q ∷ []) count)) }
     {
+        // q is both the place of the word and that of the start in it
         for q in 0..count {
             self.put_number(start_in(words[q / 4], q));
         }

@@ -110,7 +110,8 @@ fn new_layer<'a>(
     Ok(Answer::Done)
 }
 
-// The positions of a layer over two sets.
+// The positions of a layer over two sets. The arms have four types: a layer that is chosen at run time would branch at
+// every mask.
 fn laid<'n, 'v>(
     heap: Global,
     layer: Layer,
@@ -142,7 +143,7 @@ fn condition(rule: Rule) -> Condition
     }
 }
 
-// The runs at which two sets break a condition.
+// The runs at which two sets break a condition. The arms have two types.
 fn faults<A: LevelMasks, B: LevelMasks>(
     heap: Global,
     condition: Condition,

@@ -29,7 +29,7 @@ pub enum Declined<'a> {
 }
 
 impl<'a> From<AllocError> for Declined<'a> {
-    // Want of memory is told as a bad line is.
+    // Want of memory is told as a bad line is. Two steps, where a derive makes one.
     fn from(error: AllocError) -> Declined<'a> {
         Declined::BadLine(LineError::from(error))
     }

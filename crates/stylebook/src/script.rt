@@ -61,6 +61,7 @@ fn unread(rt: &HostRuntime, source: &str, number: u64, error: io::Error) -> Fail
 pub fn run<R: BufRead + Drop>(rt: &HostRuntime, source: &str, mut input: R) -> Result<(), Failed> {
     let mut sets = Sets::new(rt.alloc());
     let mut line = Vec::new(rt.alloc());
+    // a count of lines, since input may never end; one buffer for all of them
     for number in 1..u64::MAX {
         line.clear();
         match input.read_until(b'\n', &mut line) {
