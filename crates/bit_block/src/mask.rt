@@ -71,6 +71,9 @@ impl Mask {
         ensures { (t : ℕ) → raised result t ≡ (nat_lt t (bits width) && bit_of (slice_index words.now (at + t / 64)) (t % 64)) }
     {
         let there = onward(words, at);
+        if let (Width::W256, Some(four)) = (width, there.first_chunk()) {
+            return Mask { words: *four }; // all at once
+        }
         let count = there.len().min(width.bits() / 64);
         Mask {
             words: array::from_fn(|q| if q < count { there[q] } else { 0 }),
