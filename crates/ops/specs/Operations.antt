@@ -34,6 +34,16 @@ or_covers p q h = ⊎_elim (or_left p q) (or_right p q) h
 and_raises : Raises (λ p q. p && q)
 and_raises p q e = inl (and_parts p q e).0
 
+-- nor do "or", the first alone, and what the first has and the second lacks
+or_raises : Raises (λ p q. p || q)
+or_raises = or_cases
+
+first_raises : Raises (λ p q. p)
+first_raises p q e = inl e
+
+without_raises : Raises (λ p q. p && not q)
+without_raises p q e = inl (and_parts p (not q) e).0
+
 -- nor does "just one"
 one_raises : Raises exclusive
 one_raises true q e = inl refl
@@ -61,10 +71,10 @@ and_laws = record {
 -- at least one
 pub or_laws : OperationLaws (λ p q. p || q) (λ p q. p || q) true
 or_laws = record {
-  upper_raises = or_cases;
-  bits_raises = or_cases;
-  upper_above = or_above (λ p q. p || q) or_cases;
-  bits_above = or_above (λ p q. p || q) or_cases;
+  upper_raises = or_raises;
+  bits_raises = or_raises;
+  upper_above = or_above (λ p q. p || q) or_raises;
+  bits_above = or_above (λ p q. p || q) or_raises;
   upper_covers = λ t. or_covers;
   bits_covers = λ t. or_covers;
 }
@@ -72,8 +82,8 @@ or_laws = record {
 -- the first only, under the first's upper bits
 pub sub_laws : OperationLaws (λ p q. p) (λ p q. p && not q) false
 sub_laws = record {
-  upper_raises = λ p q e. inl e;
-  bits_raises = λ p q e. inl (and_parts p (not q) e).0;
+  upper_raises = first_raises;
+  bits_raises = without_raises;
   upper_above = λ p q p' q' f g e. f e;
   bits_above = λ p q p' q' f g e. f (and_parts p (not q) e).0;
   upper_covers = λ t. absurd (false≢true t);
@@ -83,9 +93,9 @@ sub_laws = record {
 -- just one, under the upper bits of either
 pub xor_laws : OperationLaws (λ p q. p || q) exclusive false
 xor_laws = record {
-  upper_raises = or_cases;
+  upper_raises = or_raises;
   bits_raises = one_raises;
-  upper_above = or_above (λ p q. p || q) or_cases;
+  upper_above = or_above (λ p q. p || q) or_raises;
   bits_above = or_above exclusive one_raises;
   upper_covers = λ t. absurd (false≢true t);
   bits_covers = λ t. absurd (false≢true t);
