@@ -4,7 +4,8 @@
     tools/places.py [COMMIT] [POINT]
 
 COMMIT is the tree that is read (the checked out files where none is named); with a POINT, a number from 1 to 8, each place
-is printed, else the counts. What is printed are candidates: docs/DESIGN-PASS.md says of each what became of it.
+is printed, else the counts. What is printed are candidates, to be read one by one: docs/DESIGN-PASS.md says which were
+places and what became of them. The tests in crates/cases are left out.
 """
 import collections
 import os
@@ -13,7 +14,7 @@ import subprocess
 import sys
 
 PATTERNS = {
-    1: r'^\s*(pub )?\w+: bool,|\b\w+: bool[,)]|\b(pub )?enum \w+|=> (Ok|Some)\(\w+\),|Err\(_\) =>|None => (0|false|Mask::zero\(\)|None)\b',
+    1: r'^\s*(pub )?\w+: bool,|\b\w+: bool[,)]|\b(pub )?enum \w+|=> (Ok|Some)\(\w+\),|Err\(_\) =>|None => ((0|false|None)\b|Mask::zero\(\)|\(0, )',
     3: r'\bwhile\b|\bfor\b.*\bin\b.*\.\.|\.enumerate\(\)|\[(at|base|m|w|q) \+ \d\]',
     4: r'^impl.*\b(From|TryFrom|FromStr|Display|PartialEq|Eq|PartialOrd|Ord|Clone|Drop)\b.* for |fn (word|named|prints|operands)\(|\.bits\(\) == \w+\.\w+\.bits\(\)',
     6: r'\[\w+(::\w+\(\))?; \d+\]|\bVec<|\bBox<|\bString\b|\bBTreeMap<',
@@ -31,32 +32,39 @@ def sources(commit):
     return [(n, subprocess.run(['git', 'show', f'{commit}:{n}'], capture_output=True, text=True).stdout) for n in keep]
 
 
+def closed(text, i, opening, closing):
+    """The place behind the bracket that closes the one at i; an arrow closes nothing."""
+    depth = 0
+    while True:
+        if text[i] == opening:
+            depth += 1
+        elif text[i] == closing and text[i - 1] != '-':
+            depth -= 1
+        i += 1
+        if depth == 0:
+            return i
+
+
 def functions(path, text):
     """Each function as (name, parameters, clauses, body)."""
-    for m in re.finditer(r'(?m)^( *)(?:pub(?:\(crate\))? )?fn (\w+)[^{;]*?\((.*?)\)[^{;]*?(?=\{|;|\n\s*(?:requires|ensures))', text, re.S):
-        rest = text[m.end():]
-        clauses, at = [], 0
+    for m in re.finditer(r'(?m)^ *(?:pub(?:\(crate\))? )?fn (\w+)', text):
+        at = m.end()
+        if text[at] == '<':
+            at = closed(text, at, '<', '>')
+        end = closed(text, at, '(', ')')
+        parameters = text[at + 1:end - 1]
+        clauses = []
+        at = end + re.match(r'[^{;]*?(?=\s*(?:requires|ensures|where|\{|;))', text[end:], re.S).end()
         while True:
-            c = re.match(r'\s*(requires|ensures)\s*(\w*)\s*\{', rest[at:])
+            c = re.match(r'[^{};]*?(requires|ensures)\s*\w*\s*(?=\{)', text[at:])
             if not c:
                 break
-            i = at + c.end()
-            depth = 1
-            while depth:
-                depth += {'{': 1, '}': -1}.get(rest[i], 0)
-                i += 1
-            clauses.append(' '.join(rest[at + c.end():i - 1].split()))
-            at = i
-        body = ''
-        b = re.match(r'\s*\{', rest[at:])
-        if b:
-            i = at + b.end()
-            depth = 1
-            while depth:
-                depth += {'{': 1, '}': -1}.get(rest[i], 0)
-                i += 1
-            body = rest[at + b.end():i - 1]
-        yield m.group(2), m.group(3), clauses, body
+            start = at + c.end()
+            at = closed(text, start, '{', '}')
+            clauses.append(' '.join(text[start + 1:at - 1].split()))
+        b = re.match(r'[^{;]*(?=\{)', text[at:])
+        body = text[at + b.end() + 1:closed(text, at + b.end(), '{', '}') - 1] if b else ''
+        yield m.group(1), parameters, clauses, body
 
 
 def shape(body):

@@ -72,7 +72,7 @@ impl Mask {
     {
         let there = onward(words, at);
         if let (Width::W256, Some(four)) = (width, there.first_chunk()) {
-            return Mask { words: *four }; // all at once
+            return Mask { words: *four }; // in one read: the rest below looks at each word
         }
         let count = there.len().min(width.bits() / 64);
         Mask {
@@ -109,24 +109,28 @@ impl Mask {
         }
     }
 
+    // The bits in both.
     pub fn and(self, other: Mask) -> Mask
         ensures { (t : ℕ) → raised result t ≡ (raised self t && raised other t) }
     {
         self.zip(other, |a, b| a & b)
     }
 
+    // The bits in at least one.
     pub fn or(self, other: Mask) -> Mask
         ensures { (t : ℕ) → raised result t ≡ (raised self t || raised other t) }
     {
         self.zip(other, |a, b| a | b)
     }
 
+    // The bits in just one of the two.
     pub fn xor(self, other: Mask) -> Mask
         ensures { (t : ℕ) → raised result t ≡ exclusive (raised self t) (raised other t) }
     {
         self.zip(other, |a, b| a ^ b)
     }
 
+    // The bits in the first only.
     pub fn without(self, other: Mask) -> Mask
         ensures { (t : ℕ) → raised result t ≡ (raised self t && not (raised other t)) }
     {

@@ -24,6 +24,7 @@ pub trait LevelMasks {
     fn trusted(&self) -> bool
         ensures { result ≡ (means self.now).trust };
 
+    // The level-0 mask; zero where the source is void.
     fn level0_mask(&self) -> Mask
         ensures { (t : ℕ) → raised result t ≡ (means self.now).up0 t };
 

@@ -25,8 +25,8 @@ pub fn comparable<A: LevelMasks, B: LevelMasks>(a: &A, b: &B) -> bool
     common(a.config(), b.config()).is_some()
 }
 
-// The first run at or above p of positions at which two sources break the condition. The arms have two types: a layer
-// that is chosen at run time would branch at every mask.
+// The first run at or above p of positions at which two sources break the condition. The arms have two types, so the
+// choice is a match and no closure.
 pub fn next_fault<A: LevelMasks, B: LevelMasks>(
     condition: Condition,
     a: &A,

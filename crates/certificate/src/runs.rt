@@ -31,7 +31,7 @@ pub fn next_run<S: LevelMasks>(s: &S, p: usize) -> Option<Run>
     Some(Run { from, to })
 }
 
-// The runs of a source one after another, from the position on that the walk stands at.
+// The runs of a source one after another, from where the walk stands.
 #[derive(Drop)]
 pub struct Runs<S> {
     pub source: S,
@@ -67,7 +67,8 @@ pub fn count_held<S: LevelMasks>(s: &S) -> usize
     runs_of(s).map(|run| run.to - run.from).sum()
 }
 
-// Marks in the draft every position that the source holds; refused, with nothing marked, where the draft has fewer positions than the source.
+// Marks in the draft every position that the source holds; refused, with nothing marked, where the draft has fewer
+// positions than the source.
 pub fn mark_all<S: LevelMasks>(s: &S, draft: &mut Draft<'_>) -> Result<(), DraftError>
     ensures refused { refusal result ≡ unless (nat_le (capacity (S.LevelMasks.means s.now).conf) (capacity (own draft.old))) bad_range }
     ensures added { Added (S.LevelMasks.means s.now) (capacity (own draft.old)) draft.old.words.now draft.new.words.now }

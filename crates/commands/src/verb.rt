@@ -1,4 +1,4 @@
-// The commands: the word of each, what it takes and what it prints. These are matches and no tables: a match has an
+// The commands: the word of each, what it takes and what it prints. These are matches, not tables: a match has an
 // answer for each case, and a table would be searched.
 ghost use Rattle.std.specs.Prelude.{◌≡◌, ◌≢◌, MatchResult};
 ghost use Rattle.commands.specs.Verbs.{layer_word, rule_word, verb_word};

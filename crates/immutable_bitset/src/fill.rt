@@ -87,7 +87,7 @@ fn put_starts(words: &mut [u64], len: usize) -> usize
 {
     let mut sum = 0;
     let count = start_words_len(len);
-    // one slice, in which words behind `len` are written while those before it are read
+    // one slice, written behind `len` and read before it: cut in two, it would have two names, and `Wrote` is of the whole
     for q in 0..count {
         let (word, next) = start_word(&words[..len], 4 * q, sum);
         words[len + q] = word;

@@ -20,7 +20,7 @@ pub(crate) struct Filled<'a> {
 }
 
 impl<'a> Filled<'a> {
-    // The set of that words and numbers.
+    // The set of those words and numbers.
     pub(crate) fn new(words: &'a [u64], numbers: &'a Numbers) -> Filled<'a>
         requires { Sound numbers.now words.now }
         ensures words { result.words.now ≡ words.now }

@@ -57,23 +57,23 @@ impl<Op: BitSetOp, A: LevelMasks, B: LevelMasks> LevelMasks for Apply<Op, A, B> 
     }
 
     fn level0_mask(&self) -> Mask {
-        match self.config() {
-            None => Mask::zero(),
-            Some(_) => Op::hierarchy_op(self.0.level0_mask(), self.1.level0_mask()),
-        }
+        self.config().map_or(
+            Mask::zero(),
+            |_| Op::hierarchy_op(self.0.level0_mask(), self.1.level0_mask()),
+        )
     }
 
     fn level1_mask(&self, i: usize) -> Mask {
-        match self.config() {
-            None => Mask::zero(),
-            Some(_) => Op::hierarchy_op(self.0.level1_mask(i), self.1.level1_mask(i)),
-        }
+        self.config().map_or(
+            Mask::zero(),
+            |_| Op::hierarchy_op(self.0.level1_mask(i), self.1.level1_mask(i)),
+        )
     }
 
     fn data_mask(&self, i: usize, j: usize) -> Mask {
-        match self.config() {
-            None => Mask::zero(),
-            Some(_) => Op::data_op(self.0.data_mask(i, j), self.1.data_mask(i, j)),
-        }
+        self.config().map_or(
+            Mask::zero(),
+            |_| Op::data_op(self.0.data_mask(i, j), self.1.data_mask(i, j)),
+        )
     }
 }

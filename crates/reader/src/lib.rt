@@ -41,6 +41,7 @@ pub struct Device<'a> {
 }
 
 impl<'a> Device<'a> {
+    // The bytes, and the code of the fault behind them.
     pub fn new(bytes: &'a [u8], code: u16) -> Device<'a>
         ensures rest { result.rest.now ≡ bytes.now }
         ensures code { result.code ≡ code }
@@ -74,6 +75,7 @@ pub struct Limit<R> {
 }
 
 impl<R: Reader> Limit<R> {
+    // The next `left` bytes of a reader.
     pub fn new(inner: R, left: usize) -> Limit<R>
         ensures inner { result.inner ≡ inner }
         ensures left { result.left ≡ left }

@@ -38,6 +38,7 @@ pub struct Offsets {
 }
 
 impl Offsets {
+    // The places in an image that declares n masks and d blocks.
     pub fn new(config: Config, n: u16, d: u32) -> Offsets
         ensures level0 { result.level0 ≡ level0_at config }
         ensures starts0 { result.level0_starts ≡ starts0_at config }

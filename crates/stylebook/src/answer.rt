@@ -110,8 +110,7 @@ fn new_layer<'a>(
     Ok(Answer::Done)
 }
 
-// The positions of a layer over two sets. The arms have four types: a layer that is chosen at run time would branch at
-// every mask.
+// The positions of a layer over two sets. The arms have four types, so the choice is a match and no closure.
 fn laid<'n, 'v>(
     heap: Global,
     layer: Layer,
