@@ -4,6 +4,7 @@
 pub mod error;
 mod fill;
 mod lookup;
+mod serialize;
 
 ghost use Rattle.std.specs.Prelude.{◌≡◌, ℕ, None, MatchOption};
 ghost use Rattle.std.specs.Option.{ForSome};
