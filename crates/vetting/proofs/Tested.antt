@@ -30,14 +30,7 @@ pub first_one : (f : ℕ → Bool) → first_not f 1 ≡ cond (f 0) None (Some 0
 unfolding first_not
 first_one f = refl
 
--- tests that agree fail first at the same place
-pub first_same : (f g : ℕ → Bool) (n : ℕ) → ((t : ℕ) → t < n → f t ≡ g t) → first_not f n ≡ first_not g n
-unfolding first_not
-first_same f g zero h = refl
-first_same f g (suc n) h =
-    ap₂ or_else (first_same f g n (λ t l. h t (omega arith))) (ap {B = Option ℕ} (λ (b : Bool). cond b None (Some n)) (h n (omega arith)))
-
--- word q of mask i holds its bits from q * 64 on
+-- where bit t of mask i stands: its word, and its place in it
 word_of : (i k t : ℕ) → ((i * (k * 64) + t) / 64 ≡ i * k + t / 64) × ((i * (k * 64) + t) % 64 ≡ t % 64)
 word_of i k t = (omega arith, omega arith)
 
@@ -67,13 +60,3 @@ before_next xs m =
     ⊎_elim (λ l. before_more xs m l)
     (λ l. omega (arith, before-past xs m l, ap ones (get_or_past xs m 0 l), ones-le 0 0 (omega arith)))
     (cases_lt m (length xs))
-
--- the first rule is broken
-pub stop : (k : ℕ) (r : Rule) (rs : List Rule) (e : Refusal) → broken_at k (first_not r.keeps r.places) ≡ Some e → first_broken k (r ∷ rs) ≡ Some e
-unfolding first_broken
-stop k r rs e h = ap (λ (o : Option Refusal). or_else o (first_broken (k + 1) rs)) h
-
--- the first rule is kept: the others decide
-pub pass : (k : ℕ) (r : Rule) (rs : List Rule) → broken_at k (first_not r.keeps r.places) ≡ None → first_broken k (r ∷ rs) ≡ first_broken (k + 1) rs
-unfolding first_broken
-pass k r rs h = ap (λ (o : Option Refusal). or_else o (first_broken (k + 1) rs)) h

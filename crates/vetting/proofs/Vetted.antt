@@ -13,17 +13,15 @@ use Rattle.serialization.specs.Layout.{words}
 use Rattle.serialization.specs.Stored.{Stored}
 use Rattle.vetting.specs.Rules.{bit_in, raises_one, or_else, first_not, broken_at, first_broken, broken}
 
--- the first of two answers, where it is none and where it is some
-pub none_then : {X : Type 0} (a b : Option X) → None ≡ a → or_else a b ≡ b
-none_then a b e = sym (ap (λ (o : Option _). or_else o b) e)
+-- what a level-0 mask counts
+pub same_count : (m : Mask) (ws : List ℕ) (c k : Config) → ((t : ℕ) → raised m t ≡ bit_in ws t) → c ≡ k
+    → count (raised m) (bits c.level0) ≡ count (bit_in ws) (bits k.level0)
+same_count m ws c k e f = ap₂ (λ (g : ℕ → Bool) (x : Config). count g (bits x.level0)) (fun_ext e) f
 
-pub some_first : {X : Type 0} (a b : Option X) (x : X) → Some x ≡ a → or_else a b ≡ Some x
-some_first a b x e = sym (ap (λ (o : Option _). or_else o b) e)
-
--- nothing comes after an answer
-or-none-right : {X : Type 0} (a : Option X) → or_else a None ≡ a
-or-none-right (Some x) = refl
-or-none-right None = refl
+-- its starts
+pub same_starts : (m : Mask) (ws : List ℕ) (c k : Config) → ((t : ℕ) → raised m t ≡ bit_in ws t) → c ≡ k
+    → (q : ℕ) → start0 (raised m) (bits c.level0) q ≡ start0 (bit_in ws) (bits k.level0) q
+same_starts m ws c k e f q = ap₂ (λ (g : ℕ → Bool) (x : Config). start0 g (bits x.level0) q) (fun_ext e) f
 
 -- of a configuration and what is stored: what each rule alone answers
 module _ (c : Config) (r : Stored) where
@@ -49,24 +47,3 @@ module _ (c : Config) (r : Stored) where
   pub decided : broken c r ≡ or_else rule1 (or_else rule2 (or_else rule3 (or_else rule4 (or_else rule5 (or_else rule6 None)))))
   unfolding broken first_broken
   decided = refl
-
-  -- nothing follows the last rule
-  pub last : or_else rule6 None ≡ rule6
-  last = or-none-right rule6
-
-  -- with the level-0 mask that the code has
-  module _ (level0 : Mask) (top : (t : ℕ) → raised level0 t ≡ bit_in r.top t) where
-    tops : raised level0 ≡ bit_in r.top
-    tops = fun_ext top
-
-    -- its count is what rule 1 tests
-    pub counted : (n ones : ℕ) → n ≡ r.n → ones ≡ count (raised level0) (bits c.level0) → broken_at 1 (first_not (λ _. (n == ones)) 1) ≡ rule1
-    counted n ones e f =
-        ap₂ (λ (x y : ℕ). broken_at 1 (first_not (λ _. (x == y)) 1)) e (f ∙ ap (λ (g : ℕ → Bool). count g (bits c.level0)) tops)
-
-    -- its starts are what rule 2 tests
-    pub started : (starts : List ℕ) → ((q : ℕ) → get_or starts q 0 ≡ start0 (raised level0) (bits c.level0) q)
-        → broken_at 2 (first_not (λ q. (get_or r.starts0 q 0 == get_or starts q 0)) 8) ≡ rule2
-    started starts e =
-        ap (λ (f : ℕ → ℕ). broken_at 2 (first_not (λ q. (get_or r.starts0 q 0 == f q)) 8))
-        (fun_ext (λ q. e q ∙ ap (λ (g : ℕ → Bool). start0 g (bits c.level0) q) tops))

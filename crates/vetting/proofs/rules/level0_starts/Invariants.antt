@@ -1,5 +1,5 @@
 use Rattle.std.proofs.Common.{◌≡◌, ℕ, ◌<◌, get_or}
-use Rattle.vetting.proofs.rules.first_start.Given as goal
+use Rattle.vetting.proofs.rules.level0_starts.Given as goal
 
 -- the starts before the place that was reached are as they should be
 abbrev pub invariant-loop-q : goal.invariant-loop-q

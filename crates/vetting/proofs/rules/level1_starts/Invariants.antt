@@ -1,6 +1,6 @@
 use Rattle.std.proofs.Common.{◌≡◌, ℕ, ◌<◌, get_or}
 use Rattle.packing.specs.Packed.{before}
-use Rattle.vetting.proofs.rules.sum_starts.Given as goal
+use Rattle.vetting.proofs.rules.level1_starts.Given as goal
 
 -- the starts before the place that was reached are as defined, and the raised bits of their words are counted
 abbrev pub invariant-loop-m : goal.invariant-loop-m
