@@ -1,6 +1,6 @@
 pub mod Broken
 pub mod Tested
-pub mod Vetted
+pub mod Level0
 pub mod Stores
 pub mod Chosen
 pub mod Kept

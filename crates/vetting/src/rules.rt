@@ -67,6 +67,7 @@ fn keep(rule: Rule, found: Option<usize>) -> Result<(), AccessError>
 }
 
 // A rule that is tested at one place.
+#[tactic(auto, unfolding(crate::specs::Rules::first_not))]
 fn hold(rule: Rule, kept: bool) -> Result<(), AccessError>
     ensures { accessed result ≡ broken_at (rule_number rule) (first_not (λ _. kept) 1) }
 {
@@ -75,11 +76,9 @@ fn hold(rule: Rule, kept: bool) -> Result<(), AccessError>
 
 // Tests that n counts the raised bits of the level-0 mask.
 fn level1_count<P: Parts>(parts: &P) -> Result<(), AccessError>
-    ensures {
-        let c = P.Parts.conf parts.now in
+    ensures { let c = P.Parts.conf parts.now in
         let r = P.Parts.parts parts.now in
-        accessed result ≡ broken_at 1 (first_not (λ _. (r.n == count (bit_in r.top) (bits c.level0))) 1)
-    }
+        accessed result ≡ broken_at 1 (first_not (λ _. (r.n == count (bit_in r.top) (bits c.level0))) 1) }
 {
     let rows = parts.level0().rank(parts.config().level0.bits());
     hold(Rule::Level1Count, parts.n() as usize == rows)
@@ -87,11 +86,9 @@ fn level1_count<P: Parts>(parts: &P) -> Result<(), AccessError>
 
 // Tests that each level-0 start is as defined.
 fn level0_starts<P: Parts>(parts: &P) -> Result<(), AccessError>
-    ensures {
-        let c = P.Parts.conf parts.now in
+    ensures { let c = P.Parts.conf parts.now in
         let r = P.Parts.parts parts.now in
-        accessed result ≡ broken_at 2 (first_not (λ q. (slice_index r.starts0 q == start0 (bit_in r.top) (bits c.level0) q)) 8)
-    }
+        accessed result ≡ broken_at 2 (first_not (λ q. (slice_index r.starts0 q == start0 (bit_in r.top) (bits c.level0) q)) 8) }
 {
     let starts = packing::level0_starts(parts.level0(), parts.config().level0);
     for q in 0..8 {
@@ -104,11 +101,9 @@ fn level0_starts<P: Parts>(parts: &P) -> Result<(), AccessError>
 
 // Tests that no level-1 mask is zero.
 fn level1_masks<P: Parts>(parts: &P) -> Result<(), AccessError>
-    ensures {
-        let c = P.Parts.conf parts.now in
+    ensures { let c = P.Parts.conf parts.now in
         let r = P.Parts.parts parts.now in
-        accessed result ≡ broken_at 3 (first_not (raises_one r.rows (bits c.level1)) r.n)
-    }
+        accessed result ≡ broken_at 3 (first_not (raises_one r.rows (bits c.level1)) r.n) }
 {
     let masks = u32::from(parts.n());
     keep(
@@ -119,16 +114,12 @@ fn level1_masks<P: Parts>(parts: &P) -> Result<(), AccessError>
 
 // Tests that each level-1 start is as defined, and counts the raised level-1 bits.
 fn level1_starts<P: Parts>(parts: &P) -> Result<usize, AccessError>
-    ensures rule {
-        let c = P.Parts.conf parts.now in
+    ensures rule { let c = P.Parts.conf parts.now in
         let r = P.Parts.parts parts.now in
-        accessed result ≡ broken_at 4 (first_not (λ m. (slice_index r.starts1 m == before r.rows m)) (r.n * words c.level1))
-    }
-    ensures ones {
-        let c = P.Parts.conf parts.now in
+        accessed result ≡ broken_at 4 (first_not (λ m. (slice_index r.starts1 m == before r.rows m)) (r.n * words c.level1)) }
+    ensures ones { let c = P.Parts.conf parts.now in
         let r = P.Parts.parts parts.now in
-        IfOk result (λ ones. ones ≡ before r.rows (r.n * words c.level1))
-    }
+        IfOk result (λ ones. ones ≡ before r.rows (r.n * words c.level1)) }
 {
     let len = parts.n() as usize * (parts.config().level1.bits() / 64);
     let mut ones = 0;
@@ -143,27 +134,21 @@ fn level1_starts<P: Parts>(parts: &P) -> Result<usize, AccessError>
 
 // Tests that d counts the raised level-1 bits, of which there are so many.
 fn data_count<P: Parts>(parts: &P, ones: usize) -> Result<(), AccessError>
-    requires {
-        let c = P.Parts.conf parts.now in
+    requires { let c = P.Parts.conf parts.now in
         let r = P.Parts.parts parts.now in
-        ones ≡ before r.rows (r.n * words c.level1)
-    }
-    ensures {
-        let c = P.Parts.conf parts.now in
+        ones ≡ before r.rows (r.n * words c.level1) }
+    ensures { let c = P.Parts.conf parts.now in
         let r = P.Parts.parts parts.now in
-        accessed result ≡ broken_at 5 (first_not (λ _. (r.d == before r.rows (r.n * words c.level1))) 1)
-    }
+        accessed result ≡ broken_at 5 (first_not (λ _. (r.d == before r.rows (r.n * words c.level1))) 1) }
 {
     hold(Rule::DataCount, parts.d() as usize == ones)
 }
 
 // Tests that no block is zero.
 fn data_blocks<P: Parts>(parts: &P) -> Result<(), AccessError>
-    ensures {
-        let c = P.Parts.conf parts.now in
+    ensures { let c = P.Parts.conf parts.now in
         let r = P.Parts.parts parts.now in
-        accessed result ≡ broken_at 6 (first_not (raises_one r.blocks (bits c.«data»)) r.d)
-    }
+        accessed result ≡ broken_at 6 (first_not (raises_one r.blocks (bits c.«data»)) r.d) }
 {
     keep(
         Rule::DataBlock,

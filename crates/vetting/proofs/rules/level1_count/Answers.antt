@@ -1,10 +1,8 @@
-use Rattle.std.proofs.Common.{◌≡◌, ℕ, Bool, ◌==◌, sym, ap, ap₂, ◌∙◌, rules}
-use mathlib.Core.Path.{fun_ext}
+use Rattle.std.proofs.Common.{ℕ, ◌==◌, ap, ap₂, ◌∙◌}
 use Rattle.bit_block.specs.Raised.{raised}
 use Rattle.bit_block.specs.Ranges.{count}
-use Rattle.bit_block.specs.Widths.{bits}
-use Rattle.vetting.specs.Rules.{bit_in, first_not, broken_at}
-use Rattle.vetting.proofs.Vetted.{same_count}
+use Rattle.vetting.specs.Rules.{first_not, broken_at}
+use Rattle.vetting.proofs.Level0.{same_count}
 use Rattle.vetting.proofs.rules.level1_count.Goals as goal
 
 pub returns : goal.returns

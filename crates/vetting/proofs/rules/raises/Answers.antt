@@ -1,4 +1,4 @@
-use Rattle.std.proofs.Common.{◌≡◌, ℕ, ◌*◌, ◌/◌, ◌+◌, get_or, sym, ap, ◌∙◌, rules, arith}
+use Rattle.std.proofs.Common.{ℕ, ◌/◌, sym, ap, ◌∙◌, rules}
 use Rattle.bit_block.specs.Widths.{bits}
 use Rattle.bit_block.proofs.Words.{whole}
 use Rattle.vetting.specs.Levels.{words_in}
