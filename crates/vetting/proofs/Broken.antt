@@ -33,7 +33,7 @@ none_fails f (suc n) e t l =
     ⊎_elim (λ q. ap f q ∙ cond-none (f n) n p.1) (λ ne. none_fails f n p.0 t (omega arith)) (cases_eq t n)
 
 -- a test that passes at each place fails nowhere
-all_pass : (f : ℕ → Bool) (n : ℕ) → ((t : ℕ) → t < n → f t ≡ true) → first_not f n ≡ None
+pub all_pass : (f : ℕ → Bool) (n : ℕ) → ((t : ℕ) → t < n → f t ≡ true) → first_not f n ≡ None
 unfolding first_not
 all_pass f zero h = refl
 all_pass f (suc n) h =

@@ -1,4 +1,6 @@
 pub mod Broken
+pub mod Tested
+pub mod Level0
 pub mod Stores
 pub mod Chosen
 pub mod Kept

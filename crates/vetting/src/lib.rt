@@ -1,6 +1,8 @@
 // The rules of what is stored, tested once for every form in which it stands.
 #![tactic(auto)]
 
+pub mod rules;
+
 ghost use Rattle.std.specs.Prelude.{◌≡◌, ℕ, slice_index};
 ghost use Rattle.bit_block.specs.declared.config.Config.{Config as Conf};
 ghost use Rattle.bit_block.specs.Raised.{raised};
