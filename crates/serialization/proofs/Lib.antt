@@ -4,3 +4,5 @@ pub mod Headers
 pub mod Lengths
 pub mod Imaging
 pub mod Laying
+pub mod Bodies
+pub mod BodyWords

@@ -6,3 +6,4 @@ pub mod Outcomes
 pub mod Fieldwise
 pub mod Writing
 pub mod Shapes
+pub mod Bodies
