@@ -8,25 +8,41 @@ use serialization::layout::Offsets;
 use std::alloc::Global;
 use std::test::Fail;
 
+// The image of 3, 64, 70 and 4,096 in a small set.
+const FOUR: [u8; 72] = [
+    3, 0, 2, 0, 3, 0, 0, 0, // version, n, d
+    3, 0, 0, 0, 0, 0, 0, 0, // the level-0 mask
+    0, 0, 0, 0, 0, 0, 0, 0, // its starts
+    3, 0, 0, 0, 0, 0, 0, 0, // the level-1 mask of row 0
+    1, 0, 0, 0, 0, 0, 0, 0, // and of row 1
+    0, 0, 2, 0, 0, 0, 0, 0, // their starts, and padding
+    8, 0, 0, 0, 0, 0, 0, 0, // the block of 3
+    65, 0, 0, 0, 0, 0, 0, 0, // of 64 and 70
+    1, 0, 0, 0, 0, 0, 0, 0, // and of 4,096
+];
+
 #[test]
 fn the_image_of_four_positions(rt: HostRuntime) -> Result<(), Fail> {
     let mut marks = [0u64; 4_096];
     let d = marked_four(&mut marks)?;
     let mut words = [0u64; 6];
     let set = packed(&mut words, &d)?;
+    let mut image = [9u8; 72];
+    assert_eq!(rt; set.serialize(&mut image), Ok(72));
+    assert_eq!(rt; image, FOUR);
+    Ok(())
+}
+
+#[test]
+fn bytes_behind_an_image_stay(rt: HostRuntime) -> Result<(), Fail> {
+    let mut marks = [0u64; 4_096];
+    let d = marked_four(&mut marks)?;
+    let mut words = [0u64; 6];
+    let set = packed(&mut words, &d)?;
     let mut buffer = [9u8; 74];
     assert_eq!(rt; set.serialize(&mut buffer), Ok(72));
-    // version, n, d; the level-0 mask; its starts; two level-1 masks; their starts and padding; three blocks
-    assert_eq!(rt; buffer[..8], [3, 0, 2, 0, 3, 0, 0, 0]);
-    assert_eq!(rt; buffer[8..16], [3, 0, 0, 0, 0, 0, 0, 0]);
-    assert_eq!(rt; buffer[16..24], [0; 8]);
-    assert_eq!(rt; buffer[24..32], [3, 0, 0, 0, 0, 0, 0, 0]);
-    assert_eq!(rt; buffer[32..40], [1, 0, 0, 0, 0, 0, 0, 0]);
-    assert_eq!(rt; buffer[40..48], [0, 0, 2, 0, 0, 0, 0, 0]);
-    assert_eq!(rt; buffer[48..56], [8, 0, 0, 0, 0, 0, 0, 0]);
-    assert_eq!(rt; buffer[56..64], [65, 0, 0, 0, 0, 0, 0, 0]);
-    assert_eq!(rt; buffer[64..72], [1, 0, 0, 0, 0, 0, 0, 0]);
-    assert_eq!(rt; buffer[72..], [9, 9]);
+    assert!(rt; &buffer[..72] == FOUR.as_slice());
+    assert_eq!(rt; [buffer[72], buffer[73]], [9, 9]);
     Ok(())
 }
 
@@ -69,9 +85,9 @@ fn empty_images(rt: HostRuntime) -> Result<(), Fail> {
     assert_eq!(rt; empty_image(rt.alloc(), Config::LARGE, &mut large)?, 96);
     // the version, and nothing else
     assert_eq!(rt; [small[0], book[0], large[0]], [3; 3]);
-    assert_eq!(rt; small[1..], [0; 23]);
-    assert_eq!(rt; book[1..], [0; 31]);
-    assert_eq!(rt; large[1..], [0; 95]);
+    assert!(rt; small[1..].iter().all(|byte| *byte == 0));
+    assert!(rt; book[1..].iter().all(|byte| *byte == 0));
+    assert!(rt; large[1..].iter().all(|byte| *byte == 0));
     Ok(())
 }
 
