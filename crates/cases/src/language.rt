@@ -1,7 +1,8 @@
-// The command language: words, numbers, names and configurations.
+// The command language: words, numbers, names, files and configurations, and the commands of images.
 use bit_block::config::{Config, Width};
+use commands::command::{Command, parse};
 use commands::line::{command_part, words};
-use commands::operand::{config, name, number};
+use commands::operand::{config, file, name, number};
 use std::test::Fail;
 
 #[test]
@@ -18,6 +19,32 @@ fn names(rt: HostRuntime) {
     assert_eq!(rt; name(b"Page-list_2").ok(), Some("Page-list_2"));
     assert!(rt; name(b"x!").is_err());
     assert!(rt; name(b"").is_err());
+}
+
+#[test]
+fn files(rt: HostRuntime) {
+    assert_eq!(rt; file("/tmp/é.img".as_bytes()).ok(), Some("/tmp/é.img"));
+    assert_eq!(rt; file(b"../a b").ok(), Some("../a b"));
+    assert!(rt; file(b"a\xff").is_err());
+}
+
+#[test]
+fn commands_of_images(rt: HostRuntime) {
+    let (body, path) = (b"body".as_slice(), b"body.img".as_slice());
+    assert!(rt; matches!(parse(b"image", &[body]), Ok(Command::Image("body"))));
+    assert!(rt;
+        matches!(
+            parse(b"write", &[body, path]),
+            Ok(Command::Write {
+                name: "body",
+                file: "body.img"
+            })
+        )
+    );
+    assert!(rt; parse(b"image", &[body, path]).is_err());
+    assert!(rt; parse(b"write", &[body]).is_err());
+    assert!(rt; parse(b"write", &[path, path]).is_err());
+    assert!(rt; parse(b"write", &[body, b"\xff"]).is_err());
 }
 
 #[test]

@@ -38,6 +38,8 @@ named-verb_word verb.Runs = refl
 named-verb_word verb.Count = refl
 named-verb_word verb.Pack = refl
 named-verb_word verb.Words = refl
+named-verb_word verb.Image = refl
+named-verb_word verb.Write = refl
 named-verb_word (verb.Check Emphasis) = refl
 named-verb_word (verb.Check Languages) = refl
 named-verb_word (verb.Check Notes) = refl
@@ -65,6 +67,8 @@ fewest verb.Runs = 1
 fewest verb.Count = 1
 fewest verb.Pack = 1
 fewest verb.Words = 1
+fewest verb.Image = 1
+fewest verb.Write = 2
 fewest (verb.Check r) = 2
 
 -- how many
@@ -79,6 +83,8 @@ most verb.Runs = 1
 most verb.Count = 1
 most verb.Pack = 2
 most verb.Words = 1
+most verb.Image = 1
+most verb.Write = 2
 most (verb.Check r) = 2
 
 -- what spells a command of a verb has as many operands as the verb takes
@@ -96,6 +102,8 @@ operand_count verb.Pack (a ∷ (b ∷ [])) c h = (omega arith, omega arith)
 operand_count verb.Runs (a ∷ []) c h = (omega arith, omega arith)
 operand_count verb.Count (a ∷ []) c h = (omega arith, omega arith)
 operand_count verb.Words (a ∷ []) c h = (omega arith, omega arith)
+operand_count verb.Image (a ∷ []) c h = (omega arith, omega arith)
+operand_count verb.Write (a ∷ (b ∷ [])) c h = (omega arith, omega arith)
 operand_count v operands c h = absurd h
 
 -- what holds under any error

@@ -1,9 +1,9 @@
 -- What the operands of a command spell.
-use Rattle.std.specs.Prelude.{◌≡◌, ℕ, ◌^◌, ◌<◌, List, [], ◌∷◌, Option, Some, None}
+use Rattle.std.specs.Prelude.{◌≡◌, ℕ, ◌^◌, ◌<◌, List, [], ◌∷◌, Option, Some, None, IsUtf8}
 use Rattle.std.specs.Borrow.{Bor}
 use Rattle.commands.specs.declared.command.Command.{Command}
 use Rattle.commands.specs.declared.command.Command.TheVariants as command
-use Rattle.commands.specs.declared.command.Command.TheVariants.{Draft, Mark, Clear, Has, Next, Runs, Count, Pack, Words, Check}
+use Rattle.commands.specs.declared.command.Command.TheVariants.{Draft, Mark, Clear, Has, Next, Runs, Count, Pack, Words, Image, Write, Check}
 use Rattle.commands.specs.declared.verb.Layer.{Layer}
 use Rattle.commands.specs.declared.verb.Verb.{Verb}
 use Rattle.commands.specs.declared.verb.Verb.TheVariants as verb
@@ -36,6 +36,10 @@ abbrev pub SpellsPair : List (Bor (List ℕ)) → Pair → Type 0
 SpellsPair (first ∷ second ∷ []) s = SpellsName first s.first.now × SpellsName second s.second.now
 SpellsPair _ s = ⊥
 
+-- a word that is the path of a file: any text
+abbrev pub SpellsFile : Bor (List ℕ) → List ℕ → Type 0
+SpellsFile word file = (file ≡ word.now) × IsUtf8 word.now
+
 -- a number of words, where one is given
 abbrev pub SpellsWords : Option (Bor (List ℕ)) → Option ℕ → Type 0
 SpellsWords None None = Unit {0}
@@ -51,6 +55,11 @@ SpellsDraft _ _ _ _ = ⊥
 abbrev pub SpellsPack : Bor (List ℕ) → Option (Bor (List ℕ)) → Command → Type 0
 SpellsPack name words (Pack n k) = SpellsName name n.now × SpellsWords words k
 SpellsPack _ _ _ = ⊥
+
+-- the command that writes the image of a set into a file
+abbrev pub SpellsWrite : Bor (List ℕ) → Bor (List ℕ) → Command → Type 0
+SpellsWrite name file (Write n f) = SpellsName name n.now × SpellsFile file f.now
+SpellsWrite _ _ _ = ⊥
 
 -- the command that lays one set over another
 abbrev pub SpellsLayer : Layer → Bor (List ℕ) → List (Bor (List ℕ)) → Command → Type 0
@@ -71,6 +80,8 @@ SpellsOperands verb.Count (name ∷ []) (Count n) = SpellsName name n.now
 SpellsOperands verb.Pack (name ∷ []) c = SpellsPack name None c
 SpellsOperands verb.Pack (name ∷ words ∷ []) c = SpellsPack name (Some words) c
 SpellsOperands verb.Words (name ∷ []) (Words n) = SpellsName name n.now
+SpellsOperands verb.Image (name ∷ []) (Image n) = SpellsName name n.now
+SpellsOperands verb.Write (name ∷ file ∷ []) c = SpellsWrite name file c
 SpellsOperands (verb.Check rule) (first ∷ second ∷ []) (Check r p) = (r ≡ rule) × SpellsPair (first ∷ second ∷ []) p
 SpellsOperands _ _ _ = ⊥
 

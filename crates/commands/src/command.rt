@@ -1,6 +1,6 @@
 // A line of a script as a command.
 ghost use Rattle.std.specs.Prelude.{IfErr, IfOk, MatchResult};
-ghost use Rattle.commands.specs.Commands.{SpellsCommand, SpellsDraft, SpellsPack, SpellsLayer};
+ghost use Rattle.commands.specs.Commands.{SpellsCommand, SpellsDraft, SpellsPack, SpellsLayer, SpellsWrite};
 
 use crate::error::LineError;
 use crate::operand;
@@ -105,6 +105,11 @@ pub enum Command<'a> {
         words: Option<usize>,
     },
     Words(&'a str),
+    Image(&'a str),
+    Write {
+        name: &'a str,
+        file: &'a str,
+    },
     Check(Rule, Pair<'a>),
 }
 
@@ -126,6 +131,8 @@ pub fn parse<'a>(word: &'a [u8], operands: &[&'a [u8]]) -> Result<Command<'a>, L
         (Verb::Pack, &[name]) => parse_pack(name, None),
         (Verb::Pack, &[name, words]) => parse_pack(name, Some(words)),
         (Verb::Words, &[name]) => operand::name(name).map(Command::Words),
+        (Verb::Image, &[name]) => operand::name(name).map(Command::Image),
+        (Verb::Write, &[name, file]) => parse_write(name, file),
         (Verb::Check(rule), &[first, second]) => {
             Ok(Command::Check(rule, Pair::try_from([first, second])?))
         }
@@ -157,6 +164,17 @@ fn parse_pack<'a>(name: &'a [u8], words: Option<&'a [u8]>) -> Result<Command<'a>
     Ok(Command::Pack {
         name: operand::name(name)?,
         words: words.map(operand::number).transpose()?,
+    })
+}
+
+// The command that writes the image of a set into a file.
+fn parse_write<'a>(name: &'a [u8], file: &'a [u8]) -> Result<Command<'a>, LineError<'a>>
+    ensures ok { IfOk result (SpellsWrite name.entry file.entry) }
+    ensures err { IfErr result (λ _. (c : Command) → SpellsWrite name.entry file.entry c → ⊥) }
+{
+    Ok(Command::Write {
+        name: operand::name(name)?,
+        file: operand::file(file)?,
     })
 }
 

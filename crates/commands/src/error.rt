@@ -1,6 +1,7 @@
-// What is wrong with a line of a script.
+// What is wrong with a line of a script, or kept it from being carried out.
 use crate::verb::Verb;
 use std::alloc::AllocError;
+use std::io;
 use thiserror::Error;
 
 #[derive(Clone, Copy, Debug, Error)]
@@ -18,10 +19,14 @@ pub enum LineError<'a> {
     NotConfig(&'a [u8]),
     #[error("'{}' is not a NAME (letters, digits, '-' and '_')", .0.escape_ascii())]
     NotName(&'a [u8]),
+    #[error("'{}' is not a FILE (text in UTF-8)", .0.escape_ascii())]
+    NotText(&'a [u8]),
     #[error("no set is named '{0}'")]
     NoSuchSet(&'a str),
     #[error("'{0}' is not a draft")]
     NotDraft(&'a str),
+    #[error("{file}: {error}")]
+    NotWritten { file: &'a str, error: io::Error },
     #[error("out of memory")]
     OutOfMemory(#[from(alloc)] AllocError),
 }

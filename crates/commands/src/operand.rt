@@ -1,5 +1,5 @@
-// The operands of commands: numbers, names and configurations.
-ghost use Rattle.std.specs.Prelude.{◌≡◌, ◌^◌, ◌<◌, MatchBool, MatchOption, MatchResult, ◌≢◌};
+// The operands of commands: numbers, names, files and configurations.
+ghost use Rattle.std.specs.Prelude.{◌≡◌, ◌^◌, ◌<◌, MatchBool, MatchOption, MatchResult, ◌≢◌, IsUtf8};
 ghost use Rattle.std.specs.Result.{OkIff};
 ghost use Rattle.commands.specs.Operands.{Decimal, decimal_value, Name, width_text, config_text, Spells};
 
@@ -42,6 +42,13 @@ pub fn name<'a>(word: &'a [u8]) -> Result<&'a str, LineError<'a>>
         return Err(LineError::NotName(word));
     }
     Ok(std::str::from_utf8(word).unwrap())
+}
+
+// The path of a file: any word that is text.
+pub fn file<'a>(word: &'a [u8]) -> Result<&'a str, LineError<'a>>
+    ensures { MatchResult result (λ s. (s.now ≡ word.now) × IsUtf8 word.now) (λ _. IsUtf8 word.now → ⊥) }
+{
+    std::str::from_utf8(word).map_err(|_| LineError::NotText(word))
 }
 
 // The width that a word spells.

@@ -115,11 +115,13 @@ pub enum Verb {
     Count,
     Pack,
     Words,
+    Image,
+    Write,
     Check(Rule),
 }
 
 impl Verb {
-    pub const ALL: [Verb; 17] = [
+    pub const ALL: [Verb; 19] = [
         Verb::Draft,
         Verb::Mark,
         Verb::Clear,
@@ -133,6 +135,8 @@ impl Verb {
         Verb::Count,
         Verb::Pack,
         Verb::Words,
+        Verb::Image,
+        Verb::Write,
         Verb::Check(Rule::Emphasis),
         Verb::Check(Rule::Languages),
         Verb::Check(Rule::Notes),
@@ -154,6 +158,8 @@ impl Verb {
             Verb::Count => "count",
             Verb::Pack => "pack",
             Verb::Words => "words",
+            Verb::Image => "image",
+            Verb::Write => "write",
             Verb::Check(rule) => rule.word(),
         }
     }
@@ -165,8 +171,9 @@ impl Verb {
             Verb::Mark | Verb::Clear => "NAME FROM TO",
             Verb::Layer(_) => "NAME A B",
             Verb::Has | Verb::Next => "NAME P",
-            Verb::Runs | Verb::Count | Verb::Words => "NAME",
+            Verb::Runs | Verb::Count | Verb::Words | Verb::Image => "NAME",
             Verb::Pack => "NAME [WORDS]",
+            Verb::Write => "NAME FILE",
             Verb::Check(rule) => rule.operands(),
         }
     }
@@ -186,6 +193,8 @@ impl Verb {
                 "packed: n N, d D, W words, packed into WORDS words, or refused: Void, or refused: NoMemory(W)",
             Verb::Words =>
                 "the words that packing fills, 16 hex digits each, or none, or refused: Void",
+            Verb::Image => "the bytes of the image, 2 hex digits each, or refused: Void",
+            Verb::Write => "wrote L bytes, or refused: Void; FILE then has the bytes of the image",
             Verb::Check(rule) => rule.prints(),
         }
     }

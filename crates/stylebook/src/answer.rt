@@ -5,7 +5,7 @@ ghost use Rattle.certificate.specs.Faults.{fault};
 ghost use Rattle.stylebook.specs.Listed.{AllRuns};
 ghost use Rattle.stylebook.specs.Verdicts.{condition_of, Verdict};
 
-use crate::packed::{Packed, pack};
+use crate::packed::{Packed, image, pack};
 use crate::refusal::{Declined, Refusal};
 use crate::sets::{Kind, Positions, Sets};
 use bit_block::config::Config;
@@ -19,7 +19,8 @@ use commands::verb::{Layer, Rule};
 use draft::{Draft, DraftView, words_needed};
 use ops::{Both, Either, OneOf, Without};
 use std::alloc::{AllocError, Global};
-use std::fmt;
+use std::rt::Files;
+use std::{fmt, fs};
 
 // What a command answers.
 #[derive(Drop)]
@@ -34,20 +35,32 @@ pub enum Answer {
     Packed(Packed),
     // the words that a packed set fills
     Words(Vec<u64>),
+    // the bytes of an image
+    Image(Vec<u8>),
+    // how many bytes were written into a file
+    Wrote(usize),
     // the runs at fault under a rule
     Faults(Rule, Vec<Run>),
 }
 
 // Carries out a command. A refusal of the library is an answer.
-pub fn respond<'a>(sets: &mut Sets, command: Command<'a>) -> Result<Answer, LineError<'a>> {
-    carry_out(sets, command).or_else(|declined| match declined {
+pub fn respond<'a>(
+    files: &impl Files,
+    sets: &mut Sets,
+    command: Command<'a>,
+) -> Result<Answer, LineError<'a>> {
+    carry_out(files, sets, command).or_else(|declined| match declined {
         Declined::Refused(refusal) => Ok(Answer::Refused(refusal)),
         Declined::BadLine(error) => Err(error),
     })
 }
 
 // Carries out a command.
-fn carry_out<'a>(sets: &mut Sets, command: Command<'a>) -> Result<Answer, Declined<'a>> {
+fn carry_out<'a>(
+    files: &impl Files,
+    sets: &mut Sets,
+    command: Command<'a>,
+) -> Result<Answer, Declined<'a>> {
     let heap = sets.heap;
     match command {
         Command::Draft {
@@ -76,6 +89,10 @@ fn carry_out<'a>(sets: &mut Sets, command: Command<'a>) -> Result<Answer, Declin
             Ok(Answer::Packed(pack(heap, &sets.view(name)?, words)?))
         }
         Command::Words(name) => Ok(Answer::Words(pack(heap, &sets.view(name)?, None)?.words)),
+        Command::Image(name) => Ok(Answer::Image(image(heap, &sets.view(name)?)?)),
+        Command::Write { name, file } => {
+            write_file(files, file, image(heap, &sets.view(name)?)?.as_slice())
+        }
         Command::Check(rule, Pair { first, second }) => {
             check(heap, rule, &sets.view(first)?, &sets.view(second)?)
         }
@@ -123,6 +140,12 @@ fn laid<'n, 'v>(
         Layer::Without => Positions::of(heap, &Without::new(a, b)),
         Layer::OneOf => Positions::of(heap, &OneOf::new(a, b)),
     }
+}
+
+// Writes bytes into a file, in place of what it had.
+fn write_file<'n>(files: &impl Files, file: &'n str, bytes: &[u8]) -> Result<Answer, Declined<'n>> {
+    fs::write(files, file, bytes).map_err(|error| LineError::NotWritten { file, error })?;
+    Ok(Answer::Wrote(bytes.len()))
 }
 
 // The runs of a set.
@@ -198,6 +221,14 @@ fn write_words<W: fmt::Write>(words: &[u64], f: &mut fmt::Formatter<W>) -> fmt::
     write_joined(words, f, |word, f| write!(f, "{word:016x}"))
 }
 
+// Writes bytes in hex, with nothing between them.
+fn write_bytes<W: fmt::Write>(bytes: &[u8], f: &mut fmt::Formatter<W>) -> fmt::Result {
+    for byte in bytes {
+        write!(f, "{byte:02x}")?;
+    }
+    Ok(())
+}
+
 impl fmt::Display for Answer {
     // The line that the answer prints, without its line end.
     fn fmt<W: fmt::Write>(&self, f: &mut fmt::Formatter<W>) -> fmt::Result {
@@ -216,6 +247,8 @@ impl fmt::Display for Answer {
             }
             Answer::Words(words) if words.is_empty() => write!(f, "none"),
             Answer::Words(words) => write_words(words, f),
+            Answer::Image(bytes) => write_bytes(bytes, f),
+            Answer::Wrote(count) => write!(f, "wrote {count} bytes"),
             Answer::Faults(rule, faults) if faults.is_empty() => write!(f, "{rule}: holds"),
             Answer::Faults(rule, faults) => {
                 write!(f, "{rule}: fails at ")?;

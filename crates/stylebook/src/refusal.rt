@@ -1,7 +1,7 @@
 // The refusals of the library, which are answers, and what else keeps a command from being carried out.
 use commands::error::LineError;
 use draft::DraftError;
-use immutable_bitset::error::FillError;
+use immutable_bitset::error::{FillError, SerializeError};
 use std::alloc::AllocError;
 use thiserror::Error;
 
@@ -12,6 +12,8 @@ pub enum Refusal {
     Draft(#[from] DraftError),
     #[error("{0:?}")]
     Fill(#[from] FillError),
+    #[error("{0:?}")]
+    Serialize(#[from] SerializeError),
     // a layer over unequal sets, or a rule on them
     #[error("Void")]
     Void,
@@ -23,7 +25,7 @@ pub enum Declined<'a> {
     // the library refused, and the script goes on
     #[error(transparent)]
     Refused(#[from] Refusal),
-    // the line is no command, or memory ran out, and the script ends
+    // the line is no command, memory ran out, or a file was not written, and the script ends
     #[error(transparent)]
     BadLine(#[from] LineError<'a>),
 }

@@ -6,6 +6,7 @@ use commands::error::LineError;
 use commands::line::{command_part, words};
 use std::alloc::AllocError;
 use std::io::BufRead;
+use std::rt::Files;
 use std::{fmt, io};
 
 // The run failed, and standard error says why.
@@ -25,13 +26,17 @@ pub fn print(rt: &HostRuntime, text: &str) -> Result<(), Failed> {
 }
 
 // Carries out a line, and gives the line to print; none where the line has no command.
-fn answered<'a>(sets: &mut Sets, line: &'a [u8]) -> Result<Option<String>, LineError<'a>> {
+fn answered<'a>(
+    files: &impl Files,
+    sets: &mut Sets,
+    line: &'a [u8],
+) -> Result<Option<String>, LineError<'a>> {
     let heap = sets.heap;
     let found = words(heap, command_part(line))?;
     match found.as_slice() {
         [] => Ok(None),
         [word, operands @ ..] => {
-            let answer = respond(sets, parse(word, operands)?)?;
+            let answer = respond(files, sets, parse(word, operands)?)?;
             Ok(Some(format!(in heap; "{answer}\n")?))
         }
     }
@@ -39,7 +44,7 @@ fn answered<'a>(sets: &mut Sets, line: &'a [u8]) -> Result<Option<String>, LineE
 
 // Carries out the line of a number, and prints its answer.
 fn step(rt: &HostRuntime, sets: &mut Sets, number: u64, line: &[u8]) -> Result<(), Failed> {
-    match answered(sets, line) {
+    match answered(rt, sets, line) {
         Ok(None) => Ok(()),
         Ok(Some(text)) => print(rt, text.as_str()),
         Err(error) => Err(fail(rt, format_args!("line {number}: {error}"))),
