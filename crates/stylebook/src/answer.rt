@@ -13,7 +13,7 @@ use bitset_interface::LevelMasks;
 use bitset_interface::walk::{contains, next_from};
 use certificate::conditions::{Condition, comparable};
 use certificate::runs::{Run, count_held, runs_of};
-use commands::command::{Command, Pair, Place, Span};
+use commands::command::{Command, Pair, Span};
 use commands::error::LineError;
 use commands::verb::{Layer, Rule};
 use draft::{Draft, DraftView, words_needed};
@@ -77,12 +77,8 @@ fn carry_out<'a>(
             Ok(Answer::Done)
         }
         Command::Layer { layer, name, over } => new_layer(sets, layer, name, over),
-        Command::Has(Place { name, position }) => {
-            Ok(Answer::Held(contains(&sets.view(name)?, position)))
-        }
-        Command::Next(Place { name, position }) => {
-            Ok(Answer::Position(next_from(&sets.view(name)?, position)))
-        }
+        Command::Has(at) => Ok(Answer::Held(contains(&sets.view(at.name)?, at.position))),
+        Command::Next(at) => Ok(Answer::Position(next_from(&sets.view(at.name)?, at.position))),
         Command::Runs(name) => Ok(Answer::Runs(runs(heap, &sets.view(name)?)?)),
         Command::Count(name) => Ok(Answer::Count(count_held(&sets.view(name)?))),
         Command::Pack { name, words } => {

@@ -1,4 +1,7 @@
 // Packing a named set into a blank, and its image.
+ghost use Rattle.std.specs.Prelude.{IfOk};
+ghost use Rattle.stylebook.specs.Images.{PackedIn, ImageOf};
+
 use crate::refusal::{Declined, Refusal};
 use crate::sets::zero_words;
 use bitset_interface::LevelMasks;
@@ -29,7 +32,9 @@ fn words_for<S: LevelMasks>(
 fn set_in<'w, 'n, S: LevelMasks>(
     words: &'w mut [u64],
     source: &S,
-) -> Result<ImmutableBitset<'w>, Declined<'n>> {
+) -> Result<ImmutableBitset<'w>, Declined<'n>>
+    ensures { IfOk result (λ set. PackedIn (S.LevelMasks.means source.now) set.blank.numbers words.old set.blank.words.now) }
+{
     let mut blank = Blank::new(words);
     blank.materialize(source).map_err(Refusal::from)?;
     Ok(blank.finish())
@@ -50,7 +55,9 @@ pub fn pack<'n, S: LevelMasks>(
 }
 
 // The image of the set that a source packs to.
-pub fn image<'n, S: LevelMasks>(heap: Global, source: &S) -> Result<Vec<u8>, Declined<'n>> {
+pub fn image<'n, S: LevelMasks>(heap: Global, source: &S) -> Result<Vec<u8>, Declined<'n>>
+    ensures { IfOk result (λ bytes. ImageOf (S.LevelMasks.means source.now) bytes.items) }
+{
     let mut words = words_for(heap, source, None)?;
     let set = set_in(words.as_mut_slice(), source)?;
     let config = set.config().ok_or(Refusal::Void)?;
