@@ -3,6 +3,7 @@
 
 pub mod error;
 mod fill;
+mod loaded;
 mod lookup;
 mod serialize;
 
