@@ -1,5 +1,5 @@
 // What was read into words, part by part.
-ghost use Rattle.std.specs.Prelude.{◌≡◌, ◌≤◌, length};
+ghost use Rattle.std.specs.Prelude.{◌≡◌, ℕ, ◌^◌, ◌<◌, ◌≤◌, length, slice_index};
 ghost use Rattle.serialization.specs.Bodies.{needed_of};
 ghost use Rattle.serialization.specs.Stored.{stored};
 
@@ -14,6 +14,7 @@ use vetting::Parts;
 pub(crate) struct Loaded<'a> {
     numbers: &'a Numbers,
     words: &'a [u64],
+    ghost fits: { (t : ℕ) → slice_index words.now t < 2 ^ 64 },
     ghost all: { needed_of numbers.now ≤ length words.now },
 }
 
