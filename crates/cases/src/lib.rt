@@ -4,6 +4,8 @@
 #[cfg(test)]
 mod drafts;
 #[cfg(test)]
+mod images;
+#[cfg(test)]
 mod language;
 #[cfg(test)]
 mod layers;
