@@ -10,6 +10,8 @@ mod language;
 #[cfg(test)]
 mod layers;
 #[cfg(test)]
+mod loads;
+#[cfg(test)]
 mod masks;
 #[cfg(test)]
 mod packed;
