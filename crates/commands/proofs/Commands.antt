@@ -4,7 +4,7 @@ use Rattle.std.specs.List.{find}
 use Rattle.std.specs.Str.{bytes_eq}
 use Rattle.std.specs.Result.{IfErr, MatchResult, is_ok}
 use Rattle.commands.specs.declared.command.Command.{Command}
-use Rattle.commands.specs.declared.command.Command.TheVariants.{Draft, Mark, Clear, Has, Next, Check}
+use Rattle.commands.specs.declared.command.Command.TheVariants.{Draft, Mark, Clear, Has, Next, Load, Read, Check}
 use Rattle.commands.specs.declared.command.Span.{Span}
 use Rattle.commands.specs.declared.command.Place.{Place}
 use Rattle.commands.specs.declared.command.Pair.{Pair}
@@ -15,8 +15,8 @@ use Rattle.commands.specs.declared.verb.Verb.{Verb}
 use Rattle.commands.specs.declared.verb.Verb.TheVariants as verb
 use Rattle.commands.specs.declared.verb.TheConstants.Verb.{ALL}
 use Rattle.commands.specs.Verbs.{verb_word}
-use Rattle.commands.specs.Commands.{SpellsSpan, SpellsPlace, SpellsPair, SpellsDraft, SpellsOperands, SpellsCommand}
-use Rattle.commands.specs.Operands.{Spells}
+use Rattle.commands.specs.Commands.{SpellsSpan, SpellsPlace, SpellsPair, SpellsDraft, SpellsLoad, SpellsRead, SpellsOperands, SpellsCommand}
+use Rattle.commands.specs.Operands.{Spells, HexDigits}
 use Rattle.bit_block.specs.declared.config.Config.{Config}
 
 -- the verb that a word names
@@ -40,6 +40,8 @@ named-verb_word verb.Pack = refl
 named-verb_word verb.Words = refl
 named-verb_word verb.Image = refl
 named-verb_word verb.Write = refl
+named-verb_word verb.Load = refl
+named-verb_word verb.Read = refl
 named-verb_word (verb.Check Emphasis) = refl
 named-verb_word (verb.Check Languages) = refl
 named-verb_word (verb.Check Notes) = refl
@@ -69,6 +71,8 @@ fewest verb.Pack = 1
 fewest verb.Words = 1
 fewest verb.Image = 1
 fewest verb.Write = 2
+fewest verb.Load = 3
+fewest verb.Read = 3
 fewest (verb.Check r) = 2
 
 -- how many
@@ -85,6 +89,8 @@ most verb.Pack = 2
 most verb.Words = 1
 most verb.Image = 1
 most verb.Write = 2
+most verb.Load = 3
+most verb.Read = 3
 most (verb.Check r) = 2
 
 -- what spells a command of a verb has as many operands as the verb takes
@@ -104,6 +110,8 @@ operand_count verb.Count (a ∷ []) c h = (omega arith, omega arith)
 operand_count verb.Words (a ∷ []) c h = (omega arith, omega arith)
 operand_count verb.Image (a ∷ []) c h = (omega arith, omega arith)
 operand_count verb.Write (a ∷ (b ∷ [])) c h = (omega arith, omega arith)
+operand_count verb.Load (a ∷ (b ∷ (d ∷ []))) c h = (omega arith, omega arith)
+operand_count verb.Read (a ∷ (b ∷ (d ∷ []))) c h = (omega arith, omega arith)
 operand_count v operands c h = absurd h
 
 -- what holds under any error
@@ -115,6 +123,21 @@ IfErr-all P (Err e) h = h
 pub no_draft : (name config : Bor (List ℕ)) (words : Option (Bor (List ℕ))) → ((k : Config) → Spells config.now k → ⊥) → (c : Command) → SpellsDraft name config words c → ⊥
 no_draft name config words none (Draft n k w) h = none k h.1
 no_draft name config words none c h = h
+
+-- they load no bytes
+pub no_load : (name config bytes : Bor (List ℕ)) → ((k : Config) → Spells config.now k → ⊥) → (c : Command) → SpellsLoad name config bytes c → ⊥
+no_load name config bytes none (Load n k b) h = none k h.1
+no_load name config bytes none c h = h
+
+-- and no file
+pub no_read : (name config file : Bor (List ℕ)) → ((k : Config) → Spells config.now k → ⊥) → (c : Command) → SpellsRead name config file c → ⊥
+no_read name config file none (Read n k f) h = none k h.1
+no_read name config file none c h = h
+
+-- where a word is no hex digits, no bytes are loaded
+pub no_bytes : (name config bytes : Bor (List ℕ)) → ((digits : List ℕ) → HexDigits bytes.now digits → ⊥) → (c : Command) → SpellsLoad name config bytes c → ⊥
+no_bytes name config bytes none (Load n k b) h = none b.now h.2
+no_bytes name config bytes none c h = h
 
 -- operands that are no span mark nothing
 pub no_mark : (operands : List (Bor (List ℕ))) → ((s : Span) → SpellsSpan operands s → ⊥) → (c : Command) → SpellsOperands verb.Mark operands c → ⊥

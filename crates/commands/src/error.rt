@@ -21,12 +21,16 @@ pub enum LineError<'a> {
     NotName(&'a [u8]),
     #[error("'{}' is not a FILE (text in UTF-8)", .0.escape_ascii())]
     NotText(&'a [u8]),
+    #[error("'{}' is not BYTES (hex digits, two a byte, or '-' for none)", .0.escape_ascii())]
+    NotBytes(&'a [u8]),
     #[error("no set is named '{0}'")]
     NoSuchSet(&'a str),
     #[error("'{0}' is not a draft")]
     NotDraft(&'a str),
     #[error("{file}: {error}")]
     NotWritten { file: &'a str, error: io::Error },
+    #[error("{file}: {error}")]
+    NotRead { file: &'a str, error: io::Error },
     #[error("out of memory")]
     OutOfMemory(#[from(alloc)] AllocError),
 }
