@@ -12,6 +12,7 @@ use Rattle.commands.specs.declared.command.Span.{Span}
 use Rattle.commands.specs.declared.command.Place.{Place}
 use Rattle.commands.specs.declared.command.Pair.{Pair}
 use Rattle.commands.specs.Operands.{Decimal, decimal_value, Name, Spells, HexDigits}
+use Rattle.commands.specs.Options.{SpellsOptions, no_options}
 
 -- a word that is a name
 abbrev pub SpellsName : Bor (List ℕ) → List ℕ → Type 0
@@ -62,9 +63,9 @@ SpellsWrite name file (Write n f) = SpellsName name n.now × SpellsFile file f.n
 SpellsWrite _ _ _ = ⊥
 
 -- the command that loads an image from bytes
-abbrev pub SpellsLoad : Bor (List ℕ) → Bor (List ℕ) → Bor (List ℕ) → Command → Type 0
-SpellsLoad name config bytes (Load n c b) = SpellsName name n.now × Spells config.now c × HexDigits bytes.now b.now
-SpellsLoad _ _ _ _ = ⊥
+abbrev pub SpellsLoad : Bor (List ℕ) → Bor (List ℕ) → Bor (List ℕ) → List (Bor (List ℕ)) → Command → Type 0
+SpellsLoad name config bytes options (Load n c b o) = SpellsName name n.now × Spells config.now c × HexDigits bytes.now b.now × SpellsOptions no_options options o
+SpellsLoad _ _ _ _ _ = ⊥
 
 -- the command that loads an image from a file
 abbrev pub SpellsRead : Bor (List ℕ) → Bor (List ℕ) → Bor (List ℕ) → Command → Type 0
@@ -92,7 +93,7 @@ SpellsOperands verb.Pack (name ∷ words ∷ []) c = SpellsPack name (Some words
 SpellsOperands verb.Words (name ∷ []) (Words n) = SpellsName name n.now
 SpellsOperands verb.Image (name ∷ []) (Image n) = SpellsName name n.now
 SpellsOperands verb.Write (name ∷ file ∷ []) c = SpellsWrite name file c
-SpellsOperands verb.Load (name ∷ config ∷ bytes ∷ []) c = SpellsLoad name config bytes c
+SpellsOperands verb.Load (name ∷ config ∷ bytes ∷ options) c = SpellsLoad name config bytes options c
 SpellsOperands verb.Read (name ∷ config ∷ file ∷ []) c = SpellsRead name config file c
 SpellsOperands (verb.Check rule) (first ∷ second ∷ []) (Check r p) = (r ≡ rule) × SpellsPair (first ∷ second ∷ []) p
 SpellsOperands _ _ _ = ⊥

@@ -4,6 +4,7 @@ ghost use Rattle.commands.specs.Commands.{SpellsCommand, SpellsDraft, SpellsPack
 
 use crate::error::LineError;
 use crate::operand;
+use crate::options::{LoadOptions, more_options};
 use crate::verb::{Layer, Rule, Verb};
 use bit_block::config::Config;
 
@@ -115,6 +116,7 @@ pub enum Command<'a> {
         name: &'a str,
         config: Config,
         bytes: &'a [u8],
+        options: LoadOptions,
     },
     // or the one in a file
     Read {
@@ -145,7 +147,9 @@ pub fn parse<'a>(word: &'a [u8], operands: &[&'a [u8]]) -> Result<Command<'a>, L
         (Verb::Words, &[name]) => operand::name(name).map(Command::Words),
         (Verb::Image, &[name]) => operand::name(name).map(Command::Image),
         (Verb::Write, &[name, file]) => parse_write(name, file),
-        (Verb::Load, &[name, config, bytes]) => parse_load(name, config, bytes),
+        (Verb::Load, &[name, config, bytes, ref options @ ..]) => {
+            parse_load(name, config, bytes, options)
+        }
         (Verb::Read, &[name, config, file]) => parse_read(name, config, file),
         (Verb::Check(rule), &[first, second]) => {
             Ok(Command::Check(rule, Pair::try_from([first, second])?))
@@ -197,14 +201,16 @@ fn parse_load<'a>(
     name: &'a [u8],
     config: &'a [u8],
     bytes: &'a [u8],
+    options: &[&'a [u8]],
 ) -> Result<Command<'a>, LineError<'a>>
-    ensures ok { IfOk result (SpellsLoad name.entry config.entry bytes.entry) }
-    ensures err { IfErr result (λ _. (c : Command) → SpellsLoad name.entry config.entry bytes.entry c → ⊥) }
+    ensures ok { IfOk result (SpellsLoad name.entry config.entry bytes.entry options.now) }
+    ensures err { IfErr result (λ _. (c : Command) → SpellsLoad name.entry config.entry bytes.entry options.now c → ⊥) }
 {
     Ok(Command::Load {
         name: operand::name(name)?,
         config: operand::config(config)?,
         bytes: operand::hex(bytes)?,
+        options: more_options(LoadOptions::NONE, options)?,
     })
 }
 

@@ -24,6 +24,14 @@ pub fn number<'a>(word: &'a [u8]) -> Result<usize, LineError<'a>>
     digits.parse().map_err(|_| LineError::NumberTooLarge(word))
 }
 
+// A decimal number of at most 16 bits.
+pub fn code<'a>(word: &'a [u8]) -> Result<u16, LineError<'a>>
+    ensures { OkIff result (Decimal word.now × (decimal_value word.now < 2 ^ 16)) (decimal_value word.now) }
+{
+    let code = number(word).map_err(|_| LineError::NotCode(word))?;
+    u16::try_from(code).map_err(|_| LineError::NotCode(word))
+}
+
 // Whether a word is one or more letters, digits, hyphens and underscores.
 fn is_name(word: &[u8]) -> bool
     ensures { MatchBool result (Name word.now) (Name word.now → ⊥) }

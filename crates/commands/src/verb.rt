@@ -180,7 +180,7 @@ impl Verb {
             Verb::Runs | Verb::Count | Verb::Words | Verb::Image => "NAME",
             Verb::Pack => "NAME [WORDS]",
             Verb::Write => "NAME FILE",
-            Verb::Load => "NAME CONFIG BYTES",
+            Verb::Load => "NAME CONFIG BYTES [words=W] [limit=M] [device=CODE]",
             Verb::Read => "NAME CONFIG FILE",
             Verb::Check(rule) => rule.operands(),
         }
