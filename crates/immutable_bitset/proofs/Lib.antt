@@ -1,1 +1,4 @@
 mod Places
+pub mod Stages
+pub mod Restored
+pub mod Loading

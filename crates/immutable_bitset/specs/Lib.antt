@@ -1,3 +1,4 @@
 pub mod Refusals
 pub mod Fillings
 pub mod Images
+pub mod Loads

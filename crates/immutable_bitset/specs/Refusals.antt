@@ -4,7 +4,8 @@ use Rattle.bitset_interface.specs.Source.{Source}
 use Rattle.bitset_interface.specs.Refusals.{Refusal, unless}
 use Rattle.packing.specs.Fills.{all_words}
 use Rattle.immutable_bitset.specs.declared.error.FillError.{FillError}
-use Rattle.immutable_bitset.specs.declared.error.FillError.TheVariants.{Void, NoMemory}
+use Rattle.immutable_bitset.specs.declared.error.FillError.TheVariants.{Void, NoMemory, Access}
+use Rattle.serialization.specs.Faults.{access_refusal}
 
 abbrev pub is_void : Refusal
 is_void = record { number = 6; values = [] }
@@ -15,6 +16,7 @@ no_memory w = record { number = 5; values = w ∷ [] }
 abbrev pub fill_refusal : FillError → Refusal
 fill_refusal Void = is_void
 fill_refusal (NoMemory w) = no_memory w
+fill_refusal (Access e) = access_refusal e
 
 -- why a filling refuses, or None where it accepts
 abbrev pub refusal : {A : Type 0} → Result A FillError → Option Refusal

@@ -1,8 +1,10 @@
 // Packed sets over lent words: a blank is filled, a finished set is read.
 #![tactic(auto)]
 
+mod deserialize;
 pub mod error;
 mod fill;
+mod loaded;
 mod lookup;
 mod serialize;
 

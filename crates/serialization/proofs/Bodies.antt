@@ -1,7 +1,7 @@
 -- Masks and starts read into words.
-use Rattle.std.proofs.Common.{◌≡◌, ℕ, ◌+◌, ◌-◌, ◌*◌, ◌/◌, ◌<◌, ◌≤◌, List, [], ◌∷◌, ◌++◌, length, take, drop, replicate, Some, None, Option, sym, refl, ap, ◌∙◌, subst, ⊎_elim, mul-le-mul_right, add-mul, zero-mul, arith}
+use Rattle.std.proofs.Common.{◌≡◌, ℕ, ◌+◌, ◌-◌, ◌*◌, ◌/◌, ◌<◌, ◌≤◌, List, [], ◌∷◌, ◌++◌, length, get_or, take, drop, replicate, Some, None, Option, sym, refl, ap, ◌∙◌, subst, ⊎_elim, mul-le-mul_right, add-mul, zero-mul, arith}
 use borrow.Rule.Slice.PartMut.{put_mid}
-use Rattle.std.proofs.lemmas.List.{take_at, drop_at, drop_all}
+use Rattle.std.proofs.lemmas.List.{take_at, drop_at, drop_all, get_or_past, get_or_append_left, get_or-append_right}
 use Rattle.std.proofs.Math.Nat.{div-mul-le_self}
 use Rattle.std.proofs.lemmas.Bool.Decides.{nat_tests}
 use Rattle.std.proofs.lemmas.Bool.{cases_lt}
@@ -15,7 +15,7 @@ use Rattle.reader.specs.Streams.{Stream, after, left}
 use Rattle.reader.proofs.Fieldings.{took_then, size_of-append, size_of-one, left_after, after-after, whole_out, edge_out}
 use Rattle.reader.proofs.LittleEndians.{numbers_none, numbers_add, length-numbers}
 use Rattle.packing.specs.StartWords.{four_of}
-use Rattle.serialization.specs.Fieldwise.{mask_in, least}
+use Rattle.serialization.specs.Fieldwise.{mask_in, least, Starts16}
 use Rattle.serialization.specs.Layout.{size, words}
 use Rattle.serialization.proofs.Lengths.{masks-words}
 
@@ -132,3 +132,36 @@ start_word_is i c s t p =
     four_least (c - a) t.front.bytes ∙ ap (λ (ys : List ℕ). four_of (numbers 2 (c - a) ys)) e
     ∙ ap four_of (sym (drop_at (numbers 2 a xs) (numbers 2 (c - a) (drop (a * 2) xs)) a (length-numbers 2 a xs)) ∙ ap (drop a) (sym (numbers_add 2 a (c - a) xs)) ∙ ap (λ (k : ℕ). drop a (numbers 2 k xs)) (sym n)))
     (cases_lt c a)
+
+-- at most four of them
+pub least-four : (c : ℕ) → least c 4 ≤ 4
+least-four c = grind (arith, nat_tests)
+
+-- numbers of 16 bits at the front of others
+pub starts_front : (xs zs ns : List ℕ) → xs ≡ ns → Starts16 (xs ++ zs) → Starts16 ns
+starts_front xs zs ns e h t =
+    subst (λ (ys : List ℕ). get_or ys t 0 < 65536) e
+    (⊎_elim (λ (l : t < length xs). subst (λ (n : ℕ). n < 65536) (get_or_append_left xs zs 0 t l) (h t))
+    (λ (l : length xs ≤ t). subst (λ (n : ℕ). n < 65536) (sym (get_or_past xs t 0 l)) (omega arith)) (cases_lt t (length xs)))
+
+-- numbers of 16 bits behind others
+starts_both : (xs ys : List ℕ) → Starts16 xs → Starts16 ys → Starts16 (xs ++ ys)
+starts_both xs ys f h t =
+    ⊎_elim (λ (l : t < length xs). subst (λ (n : ℕ). n < 65536) (sym (get_or_append_left xs ys 0 t l)) (f t))
+    (λ (l : length xs ≤ t). subst (λ (n : ℕ). n < 65536) (sym (get_or-append_right xs ys (length xs) t 0 refl l)) (h (t - length xs))) (cases_lt t (length xs))
+
+-- no starts
+pub small_none : (c : ℕ) (xs : List ℕ) → Starts16 (numbers 2 (least c 0) xs)
+small_none c xs t = subst (λ (ys : List ℕ). get_or ys t 0 < 65536) (sym (ap (λ (n : ℕ). numbers 2 n xs) (least_none c) ∙ numbers_none 2 xs)) (omega arith)
+
+-- the starts of one word more
+pub small_more : (c i : ℕ) (s t : Stream) → Took (many (least c (4 * i)) 2 ∷ []) s None t → Starts16 (numbers 2 (least c (4 * i)) s.front.bytes)
+    → Starts16 (numbers 2 (least (c - 4 * i) 4) t.front.bytes) → Starts16 (numbers 2 (least c (4 * (i + 1))) s.front.bytes)
+small_more c i s t p f h =
+    let a : ℕ = least c (4 * i) in
+    let b : ℕ = least (c - 4 * i) 4 in
+    let xs : List ℕ = s.front.bytes in
+    let e : t.front.bytes ≡ drop (a * 2) xs = ap (λ (x : Stream). x.front.bytes) p.1 ∙ ap (λ (n : ℕ). drop n xs) (size_of-one (many a 2)) in
+    let j : numbers 2 a xs ++ numbers 2 b t.front.bytes ≡ numbers 2 (least c (4 * (i + 1))) xs =
+    ap (λ (ys : List ℕ). numbers 2 a xs ++ numbers 2 b ys) e ∙ sym (numbers_add 2 a b xs) ∙ ap (λ (n : ℕ). numbers 2 n xs) (least_more c i) in
+    subst Starts16 j (starts_both (numbers 2 a xs) (numbers 2 b t.front.bytes) f h)

@@ -16,8 +16,8 @@ use Rattle.reader.specs.Fields.{Run, Took, Gives, many, size_of}
 use Rattle.reader.specs.LittleEndian.{numbers}
 use Rattle.reader.specs.Streams.{Stream}
 use Rattle.reader.proofs.Fieldings.{after_none, size_of-append, size_of-one}
-use Rattle.serialization.specs.Bodies.{masks_in, MasksRead, start_words_in, starts_behind, blocks_behind, needed_of, level1_in, blocks_in, suffice, level1_fields, block_fields, body_fields, BodyRead}
-use Rattle.serialization.specs.Fieldwise.{least}
+use Rattle.serialization.specs.Bodies.{masks_in, MasksRead, start_words_in, starts_in, starts_behind, blocks_behind, needed_of, level1_in, blocks_in, suffice, level1_fields, block_fields, body_fields, BodyRead}
+use Rattle.serialization.specs.Fieldwise.{least, Starts16}
 use Rattle.serialization.specs.Layout.{size, words, padding, starts1_end, rest_fields}
 
 -- what an answer gives gives more
@@ -165,3 +165,8 @@ fields_all m lent e = ap (λ (q : Bool). cond q (rest_fields m.config m.n m.d) [
 
 pub fields_none : (m : Numbers) (lent : ℕ) → suffice m lent ≡ false → ◌≡◌ {A = List Run} [] (body_fields m lent)
 fields_none m lent e = ap (λ (q : Bool). cond q (rest_fields m.config m.n m.d) []) (sym e)
+
+-- the level-1 starts are numbers of 16 bits
+pub small_starts : (m : Numbers) (n : ℕ) (xs ys : List ℕ) → n ≡ m.n * words m.config.level1 → ys ≡ drop (starts_behind m) xs → Starts16 (numbers 2 n ys) → Starts16 (starts_in m xs)
+unfolding k1of
+small_starts m n xs ys e f h = subst Starts16 (ap₂ (numbers 2) e f) h

@@ -41,6 +41,10 @@ level1_fields m = many m.n (size m.config.level1) ∷ many (m.n * words m.config
 abbrev pub block_fields : Numbers → List Run
 block_fields m = one (padding (size m.config.«data») (starts1_end m.config m.n)) ∷ many m.d (size m.config.«data») ∷ []
 
+-- the level-1 starts
+abbrev pub starts_in : Numbers → List ℕ → List ℕ
+starts_in m xs = numbers 2 (len_of m) (drop (starts_behind m) xs)
+
 -- the words of level 1 from bytes that begin with it, and those of the blocks from bytes that begin with their padding
 abbrev pub level1_in : Numbers → List ℕ → List ℕ
 level1_in m xs = numbers 8 (len_of m) xs ++ start_words_in (len_of m) (drop (starts_behind m) xs) (quarter (len_of m))

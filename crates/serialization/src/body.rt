@@ -1,11 +1,12 @@
 // Reading what stands behind level 0 into lent words.
-ghost use Rattle.std.specs.Prelude.{◌≡◌, ◌+◌, ◌*◌, ◌≤◌, [], ◌∷◌, length, drop};
+ghost use Rattle.std.specs.Prelude.{◌≡◌, ◌+◌, ◌*◌, ◌≤◌, true, [], ◌∷◌, length, drop};
 ghost use Rattle.packing.specs.Meaning.{kdof, len_of};
 ghost use Rattle.packing.specs.Packed.{quarter};
 ghost use Rattle.packing.specs.Wrote.{Wrote};
 ghost use Rattle.reader.specs.Fields.{Took, Gives, faulted, many};
-ghost use Rattle.serialization.specs.Bodies.{masks_in, MasksRead, start_words_in, needed_of, level1_fields, block_fields, level1_in, blocks_in, body_fields, BodyRead};
-ghost use Rattle.serialization.specs.Fieldwise.{least};
+ghost use Rattle.reader.specs.LittleEndian.{numbers};
+ghost use Rattle.serialization.specs.Bodies.{masks_in, MasksRead, start_words_in, needed_of, level1_fields, block_fields, level1_in, blocks_in, starts_in, suffice, body_fields, BodyRead};
+ghost use Rattle.serialization.specs.Fieldwise.{least, Starts16};
 ghost use Rattle.serialization.specs.Layout.{size, padding, starts1_end};
 
 use crate::fields::{read_mask, read_start_word, skip_padding};
@@ -36,6 +37,7 @@ pub fn read_start_words<R: Reader>(
 ) -> Result<(), ReadFault>
     ensures took { Took (many (least count (4 * length out.old)) 2 ∷ []) (R.Reader.means reader.old) (faulted result) (R.Reader.means reader.new) }
     ensures gives { Gives result (λ _. out.new ≡ start_words_in count (R.Reader.means reader.old).front.bytes (length out.old)) }
+    ensures small { Gives result (λ _. Starts16 (numbers 2 (least count (4 * length out.old)) (R.Reader.means reader.old).front.bytes)) }
 {
     let mut left = count;
     for word in out.iter_mut() {
@@ -54,6 +56,7 @@ fn read_level1<R: Reader>(
     requires { needed_of numbers ≤ length words.old }
     ensures took { Took (level1_fields numbers) (R.Reader.means reader.old) (faulted result) (R.Reader.means reader.new) }
     ensures gives { Gives result (λ _. Wrote words.old words.new 0 (level1_in numbers (R.Reader.means reader.old).front.bytes) (len_of numbers + quarter (len_of numbers))) }
+    ensures small { Gives result (λ _. Starts16 (starts_in numbers (R.Reader.means reader.old).front.bytes)) }
 {
     let len = numbers.level1_len();
     read_masks(reader, numbers.config.level1, &mut words[..len])?;
@@ -87,6 +90,7 @@ pub fn read_body<R: Reader>(
 ) -> Result<(), ReadFault>
     ensures took { Took (body_fields numbers.now (length words.old)) (R.Reader.means reader.old) (faulted result) (R.Reader.means reader.new) }
     ensures gives { Gives result (λ _. BodyRead numbers.now (R.Reader.means reader.old).front.bytes words.old words.new) }
+    ensures small { Gives result (λ _. suffice numbers.now (length words.old) ≡ true → Starts16 (starts_in numbers.now (R.Reader.means reader.old).front.bytes)) }
 {
     if words.len() < words_needed(numbers.config, numbers.n, numbers.d) {
         return Ok(());

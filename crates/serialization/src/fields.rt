@@ -4,7 +4,7 @@ ghost use Rattle.reader.specs.Fields.{Took, Gives, faulted, one, many};
 ghost use Rattle.reader.specs.LittleEndian.{value, numbers};
 ghost use Rattle.reader.specs.Streams.{after};
 ghost use Rattle.serialization.specs.Faults.{accessed};
-ghost use Rattle.serialization.specs.Fieldwise.{mask_in, four_of, least, TopIn};
+ghost use Rattle.serialization.specs.Fieldwise.{mask_in, four_of, least, Starts16, TopIn};
 ghost use Rattle.serialization.specs.Image.{n_in, d_in};
 ghost use Rattle.serialization.specs.Layout.{size, padding, top_fields};
 ghost use Rattle.serialization.specs.Outcomes.{headed};
@@ -137,12 +137,21 @@ pub fn read_top<R: Reader>(
     })
 }
 
+// The word of four starts; each is a number of 16 bits.
+fn word_of_starts(starts: [u16; 4]) -> u64
+    ensures word { result ≡ four_of starts }
+    ensures small { Starts16 starts }
+{
+    pack_starts(starts)
+}
+
 // The word of up to four starts, the first in the most significant bits; a field without a start is 0.
 pub fn read_start_word<R: Reader>(reader: &mut R, count: usize) -> Result<u64, ReadFault>
     ensures took { Took (many (least count 4) 2 ∷ []) (R.Reader.means reader.old) (faulted result) (R.Reader.means reader.new) }
     ensures gives { Gives result (λ w. w ≡ four_of (numbers 2 (least count 4) (R.Reader.means reader.old).front.bytes)) }
+    ensures small { Gives result (λ _. Starts16 (numbers 2 (least count 4) (R.Reader.means reader.old).front.bytes)) }
 {
     let mut starts = [0; 4];
     read_numbers(reader, &mut starts[..count.min(4)])?;
-    Ok(pack_starts(starts))
+    Ok(word_of_starts(starts))
 }

@@ -1,4 +1,5 @@
-use Rattle.std.proofs.Common.{◌≡◌, true, List, length, Some, None, subst, arith, rules}
+use Rattle.std.proofs.Common.{◌≡◌, false, sym, ◌∙◌, true, List, length, Some, None, subst, arith, rules}
+use Rattle.std.proofs.lemmas.Bool.{false≢true}
 use Rattle.packing.specs.declared.Numbers.{Numbers}
 use Rattle.reader.specs.Fields.{Run, Took, faulted}
 use Rattle.reader.specs.Streams.{Stream}
@@ -56,3 +57,12 @@ returns-clause-gives g c =
     gives_along c.read_blocks.result _ _
     (λ x h. body_written m s t c.args.words.now c.read_level1.new.words c.read_blocks.new.words n c.in_ok-read_level1.ensures.took c.in_ok-read_level1.ensures.gives h)
     c.read_blocks.ensures.gives
+
+pub returns-then-words-words_needed-clause-small : goal.returns-then-words-words_needed-clause-small
+returns-then-words-words_needed-clause-small g c e =
+    let l : suffice c.args.numbers.now (length c.args.words.now) ≡ false = lacking c.args.numbers.now c.words_needed.result (length c.args.words.now) c.words_needed.ensures c.if-words-words_needed.true in
+    absurd (false≢true (sym l ∙ e))
+
+pub returns-clause-small : goal.returns-clause-small
+returns-clause-small g c =
+    gives_along c.read_blocks.result _ _ (λ x h e. c.in_ok-read_level1.ensures.small) c.read_blocks.ensures.gives

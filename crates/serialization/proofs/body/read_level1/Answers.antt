@@ -5,7 +5,7 @@ use Rattle.reader.specs.Streams.{Stream}
 use Rattle.reader.proofs.Fieldings.{took_then, took_stop}
 use Rattle.serialization.specs.Bodies.{masks_in}
 use Rattle.serialization.specs.Layout.{size, words}
-use Rattle.serialization.proofs.BodyWords.{gives_along, level1_masks, level1_starts, behind_level1, level1_written}
+use Rattle.serialization.proofs.BodyWords.{gives_along, level1_masks, level1_starts, behind_level1, level1_written, small_starts}
 use Rattle.serialization.proofs.body.read_level1.Goals as goal
 
 -- the two parts
@@ -50,3 +50,15 @@ returns-clause-gives g c =
     gives_along c.read_start_words.result _ _
     (λ x h. level1_written m L c.data_start.result s.front.bytes t.front.bytes ws rows c.read_start_words.new.out c.level1_len-len.ensures c.data_start.ensures c.requires c.in_ok-read_masks.ensures.gives (behind_level1 m s t p) h)
     c.read_start_words.ensures.gives
+
+pub returns-clause-small : goal.returns-clause-small
+returns-clause-small g c =
+    let m : Numbers = c.args.numbers in
+    let L : ℕ = c.level1_len-len.result in
+    let ws : List ℕ = c.args.words.now in
+    let s : Stream = g.R.Reader.means c.args.reader.now in
+    let t : Stream = g.R.Reader.means c.read_masks.new.reader in
+    let p : Took (masks-of m) s None t =
+    subst (λ (k : ℕ). Took (many k (size m.config.level1) ∷ []) s None t) (level1_masks m L ws c.level1_len-len.ensures c.requires) c.in_ok-read_masks.ensures.took in
+    let n = level1_starts m L c.data_start.result ws c.read_masks.new.out c.level1_len-len.ensures c.data_start.ensures c.requires c.read_masks.auto.out in
+    gives_along c.read_start_words.result _ _ (λ x h. small_starts m _ s.front.bytes t.front.bytes n (behind_level1 m s t p) h) c.read_start_words.ensures.small

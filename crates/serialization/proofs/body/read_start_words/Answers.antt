@@ -6,8 +6,8 @@ use Rattle.reader.specs.Fields.{Took, many}
 use Rattle.reader.specs.LittleEndian.{numbers}
 use Rattle.reader.specs.Streams.{Stream}
 use Rattle.reader.proofs.Fieldings.{run_none}
-use Rattle.serialization.specs.Fieldwise.{least}
-use Rattle.serialization.proofs.Bodies.{least_more, least_none, least_rises, starts_then, starts_stop, start_word_is}
+use Rattle.serialization.specs.Fieldwise.{least, Starts16}
+use Rattle.serialization.proofs.Bodies.{least_more, small_none, small_more, least_none, least_rises, starts_then, starts_stop, start_word_is}
 use Rattle.serialization.proofs.body.read_start_words.Goals as goal
 
 pub loop-word-init : goal.loop-word-init
@@ -17,6 +17,7 @@ loop-word-init g c =
       left = omega arith;
       took = subst (λ (n : ℕ). Took (many n 2 ∷ []) s None s) (sym (least_none c.args.count)) (run_none 2 s);
       filled = sym (gather_none _);
+      small = small_none c.args.count s.front.bytes;
     }
 
 pub returns-in_err-word-clause-took : goal.returns-in_err-word-clause-took
@@ -49,4 +50,5 @@ loop-word-preserved g c =
       filled = take_more_set c.loop-word.out i c.in_ok-word.field-0 (omega arith)
           ∙ ap₂ (λ (xs : List ℕ) (x : ℕ). xs ++ x ∷ []) v.filled word
           ∙ sym (gather_more _ i);
+      small = small_more n i s t v.took v.small (subst (λ (k : ℕ). Starts16 (numbers 2 (least k 4) t.front.bytes)) v.left c.in_ok-word.ensures.small);
     }
