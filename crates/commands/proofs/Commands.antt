@@ -1,10 +1,10 @@
 -- Words that spell no command.
-use Rattle.std.proofs.Common.{◌≡◌, ℕ, ◌≤◌, List, [], ◌∷◌, length, get_or, Option, Some, Bor, Result, Ok, Err, arith, refl, ap, sym, subst, ◌∙◌}
+use Rattle.std.proofs.Common.{◌≡◌, ℕ, ◌≤◌, List, [], ◌∷◌, length, get_or, drop, Option, Some, Bor, Result, Ok, Err, arith, refl, ap, sym, subst, ◌∙◌}
 use Rattle.std.specs.List.{find}
 use Rattle.std.specs.Str.{bytes_eq}
 use Rattle.std.specs.Result.{IfErr, MatchResult, is_ok}
 use Rattle.commands.specs.declared.command.Command.{Command}
-use Rattle.commands.specs.declared.command.Command.TheVariants.{Draft, Mark, Clear, Has, Next, Check}
+use Rattle.commands.specs.declared.command.Command.TheVariants.{Draft, Mark, Clear, Has, Next, Load, Read, Check}
 use Rattle.commands.specs.declared.command.Span.{Span}
 use Rattle.commands.specs.declared.command.Place.{Place}
 use Rattle.commands.specs.declared.command.Pair.{Pair}
@@ -15,8 +15,10 @@ use Rattle.commands.specs.declared.verb.Verb.{Verb}
 use Rattle.commands.specs.declared.verb.Verb.TheVariants as verb
 use Rattle.commands.specs.declared.verb.TheConstants.Verb.{ALL}
 use Rattle.commands.specs.Verbs.{verb_word}
-use Rattle.commands.specs.Commands.{SpellsSpan, SpellsPlace, SpellsPair, SpellsDraft, SpellsOperands, SpellsCommand}
-use Rattle.commands.specs.Operands.{Spells}
+use Rattle.commands.specs.Commands.{SpellsSpan, SpellsPlace, SpellsPair, SpellsDraft, SpellsLoad, SpellsRead, SpellsOperands, SpellsCommand}
+use Rattle.commands.specs.Operands.{Spells, HexDigits}
+use Rattle.commands.specs.Options.{SpellsOptions, no_options}
+use Rattle.commands.specs.declared.options.LoadOptions.{LoadOptions}
 use Rattle.bit_block.specs.declared.config.Config.{Config}
 
 -- the verb that a word names
@@ -40,6 +42,8 @@ named-verb_word verb.Pack = refl
 named-verb_word verb.Words = refl
 named-verb_word verb.Image = refl
 named-verb_word verb.Write = refl
+named-verb_word verb.Load = refl
+named-verb_word verb.Read = refl
 named-verb_word (verb.Check Emphasis) = refl
 named-verb_word (verb.Check Languages) = refl
 named-verb_word (verb.Check Notes) = refl
@@ -69,26 +73,30 @@ fewest verb.Pack = 1
 fewest verb.Words = 1
 fewest verb.Image = 1
 fewest verb.Write = 2
+fewest verb.Load = 3
+fewest verb.Read = 3
 fewest (verb.Check r) = 2
 
--- how many
-abbrev pub most : Verb → ℕ
-most verb.Draft = 3
-most verb.Mark = 3
-most verb.Clear = 3
-most (verb.Layer l) = 3
-most verb.Has = 2
-most verb.Next = 2
-most verb.Runs = 1
-most verb.Count = 1
-most verb.Pack = 2
-most verb.Words = 1
-most verb.Image = 1
-most verb.Write = 2
-most (verb.Check r) = 2
+-- how many; a command that loads takes any number n
+abbrev pub most : Verb → ℕ → ℕ
+most verb.Draft n = 3
+most verb.Mark n = 3
+most verb.Clear n = 3
+most (verb.Layer l) n = 3
+most verb.Has n = 2
+most verb.Next n = 2
+most verb.Runs n = 1
+most verb.Count n = 1
+most verb.Pack n = 2
+most verb.Words n = 1
+most verb.Image n = 1
+most verb.Write n = 2
+most verb.Load n = n
+most verb.Read n = 3
+most (verb.Check r) n = 2
 
 -- what spells a command of a verb has as many operands as the verb takes
-pub operand_count : (v : Verb) (operands : List (Bor (List ℕ))) (c : Command) → SpellsOperands v operands c → (fewest v ≤ length operands) × (length operands ≤ most v)
+pub operand_count : (v : Verb) (operands : List (Bor (List ℕ))) (c : Command) → SpellsOperands v operands c → (fewest v ≤ length operands) × (length operands ≤ most v (length operands))
 operand_count verb.Mark (a ∷ (b ∷ (d ∷ []))) c h = (omega arith, omega arith)
 operand_count verb.Clear (a ∷ (b ∷ (d ∷ []))) c h = (omega arith, omega arith)
 operand_count (verb.Layer l) (a ∷ (b ∷ (d ∷ []))) c h = (omega arith, omega arith)
@@ -104,6 +112,8 @@ operand_count verb.Count (a ∷ []) c h = (omega arith, omega arith)
 operand_count verb.Words (a ∷ []) c h = (omega arith, omega arith)
 operand_count verb.Image (a ∷ []) c h = (omega arith, omega arith)
 operand_count verb.Write (a ∷ (b ∷ [])) c h = (omega arith, omega arith)
+operand_count verb.Load (a ∷ (b ∷ (d ∷ options))) c h = (omega arith, omega arith)
+operand_count verb.Read (a ∷ (b ∷ (d ∷ []))) c h = (omega arith, omega arith)
 operand_count v operands c h = absurd h
 
 -- what holds under any error
@@ -115,6 +125,26 @@ IfErr-all P (Err e) h = h
 pub no_draft : (name config : Bor (List ℕ)) (words : Option (Bor (List ℕ))) → ((k : Config) → Spells config.now k → ⊥) → (c : Command) → SpellsDraft name config words c → ⊥
 no_draft name config words none (Draft n k w) h = none k h.1
 no_draft name config words none c h = h
+
+-- they load no bytes
+pub no_load : (name config bytes : Bor (List ℕ)) (options : List (Bor (List ℕ))) → ((k : Config) → Spells config.now k → ⊥) → (c : Command) → SpellsLoad name config bytes options c → ⊥
+no_load name config bytes options none (Load n k b o) h = none k h.1
+no_load name config bytes options none c h = h
+
+-- and no file
+pub no_read : (name config file : Bor (List ℕ)) → ((k : Config) → Spells config.now k → ⊥) → (c : Command) → SpellsRead name config file c → ⊥
+no_read name config file none (Read n k f) h = none k h.1
+no_read name config file none c h = h
+
+-- where a word is no hex digits, no bytes are loaded
+pub no_bytes : (name config bytes : Bor (List ℕ)) (options : List (Bor (List ℕ))) → ((digits : List ℕ) → HexDigits bytes.now digits → ⊥) → (c : Command) → SpellsLoad name config bytes options c → ⊥
+no_bytes name config bytes options none (Load n k b o) h = none b.now h.2
+no_bytes name config bytes options none c h = h
+
+-- nor are they with words that are no options
+pub no_option : (name config bytes : Bor (List ℕ)) (options : List (Bor (List ℕ))) → ((o : LoadOptions) → SpellsOptions no_options options o → ⊥) → (c : Command) → SpellsLoad name config bytes options c → ⊥
+no_option name config bytes options none (Load n k b o) h = none o h.3
+no_option name config bytes options none c h = h
 
 -- operands that are no span mark nothing
 pub no_mark : (operands : List (Bor (List ℕ))) → ((s : Span) → SpellsSpan operands s → ⊥) → (c : Command) → SpellsOperands verb.Mark operands c → ⊥
@@ -162,3 +192,10 @@ at_three P (x ∷ []) a b d l h = absurd (omega arith)
 at_three P (x ∷ (y ∷ [])) a b d l h = absurd (omega arith)
 at_three P (x ∷ (y ∷ (z ∷ []))) a b d l h = h
 at_three P (x ∷ (y ∷ (z ∷ (w ∷ xs)))) a b d l h = absurd (omega arith)
+
+-- or of three and those behind them
+pub at_least_three : {A : Type 0} (P : List A → Type 0) (xs : List A) (a b d : A) → 3 ≤ length xs → P (get_or xs 0 a ∷ (get_or xs 1 b ∷ (get_or xs 2 d ∷ drop 3 xs))) → P xs
+at_least_three P [] a b d l h = absurd (omega arith)
+at_least_three P (x ∷ []) a b d l h = absurd (omega arith)
+at_least_three P (x ∷ (y ∷ [])) a b d l h = absurd (omega arith)
+at_least_three P (x ∷ (y ∷ (z ∷ xs))) a b d l h = h

@@ -1,4 +1,5 @@
 mod Commands
+mod Keys
 mod Lines
 mod Spelled
 mod Verbs

@@ -3,7 +3,7 @@ use Rattle.std.specs.Prelude.{◌≡◌, ℕ, ◌^◌, ◌<◌, List, [], ◌∷
 use Rattle.std.specs.Borrow.{Bor}
 use Rattle.commands.specs.declared.command.Command.{Command}
 use Rattle.commands.specs.declared.command.Command.TheVariants as command
-use Rattle.commands.specs.declared.command.Command.TheVariants.{Draft, Mark, Clear, Has, Next, Runs, Count, Pack, Words, Image, Write, Check}
+use Rattle.commands.specs.declared.command.Command.TheVariants.{Draft, Mark, Clear, Has, Next, Runs, Count, Pack, Words, Image, Write, Load, Read, Check}
 use Rattle.commands.specs.declared.verb.Layer.{Layer}
 use Rattle.commands.specs.declared.verb.Verb.{Verb}
 use Rattle.commands.specs.declared.verb.Verb.TheVariants as verb
@@ -11,7 +11,8 @@ use Rattle.commands.specs.Verbs.{verb_word}
 use Rattle.commands.specs.declared.command.Span.{Span}
 use Rattle.commands.specs.declared.command.Place.{Place}
 use Rattle.commands.specs.declared.command.Pair.{Pair}
-use Rattle.commands.specs.Operands.{Decimal, decimal_value, Name, Spells}
+use Rattle.commands.specs.Operands.{Decimal, decimal_value, Name, Spells, HexDigits}
+use Rattle.commands.specs.Options.{SpellsOptions, no_options}
 
 -- a word that is a name
 abbrev pub SpellsName : Bor (List ℕ) → List ℕ → Type 0
@@ -61,6 +62,16 @@ abbrev pub SpellsWrite : Bor (List ℕ) → Bor (List ℕ) → Command → Type 
 SpellsWrite name file (Write n f) = SpellsName name n.now × SpellsFile file f.now
 SpellsWrite _ _ _ = ⊥
 
+-- the command that loads an image from bytes
+abbrev pub SpellsLoad : Bor (List ℕ) → Bor (List ℕ) → Bor (List ℕ) → List (Bor (List ℕ)) → Command → Type 0
+SpellsLoad name config bytes options (Load n c b o) = SpellsName name n.now × Spells config.now c × HexDigits bytes.now b.now × SpellsOptions no_options options o
+SpellsLoad _ _ _ _ _ = ⊥
+
+-- the command that loads an image from a file
+abbrev pub SpellsRead : Bor (List ℕ) → Bor (List ℕ) → Bor (List ℕ) → Command → Type 0
+SpellsRead name config file (Read n c f) = SpellsName name n.now × Spells config.now c × SpellsFile file f.now
+SpellsRead _ _ _ _ = ⊥
+
 -- the command that lays one set over another
 abbrev pub SpellsLayer : Layer → Bor (List ℕ) → List (Bor (List ℕ)) → Command → Type 0
 SpellsLayer layer name over (command.Layer l n p) = (l ≡ layer) × SpellsName name n.now × SpellsPair over p
@@ -82,6 +93,8 @@ SpellsOperands verb.Pack (name ∷ words ∷ []) c = SpellsPack name (Some words
 SpellsOperands verb.Words (name ∷ []) (Words n) = SpellsName name n.now
 SpellsOperands verb.Image (name ∷ []) (Image n) = SpellsName name n.now
 SpellsOperands verb.Write (name ∷ file ∷ []) c = SpellsWrite name file c
+SpellsOperands verb.Load (name ∷ config ∷ bytes ∷ options) c = SpellsLoad name config bytes options c
+SpellsOperands verb.Read (name ∷ config ∷ file ∷ []) c = SpellsRead name config file c
 SpellsOperands (verb.Check rule) (first ∷ second ∷ []) (Check r p) = (r ≡ rule) × SpellsPair (first ∷ second ∷ []) p
 SpellsOperands _ _ _ = ⊥
 

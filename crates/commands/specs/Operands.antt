@@ -1,7 +1,7 @@
 -- What the operands of commands spell.
-use Rattle.std.specs.Prelude.{◌≡◌, ℕ, ◌+◌, ◌-◌, ◌*◌, ◌<◌, Bool, true, ◌||◌, ◌⊎◌, List, [], ◌∷◌, ◌++◌, length, codes, ◌==◌, slice_index}
+use Rattle.std.specs.Prelude.{◌≡◌, ℕ, ◌+◌, ◌-◌, ◌*◌, ◌%◌, ◌<◌, Bool, true, ◌||◌, ◌⊎◌, List, [], ◌∷◌, ◌++◌, length, codes, ◌==◌, slice_index}
 use Rattle.std.specs.Int.{IsInRange}
-use Rattle.std.specs.Char.{is_ascii_alphanumeric}
+use Rattle.std.specs.Char.{is_ascii_alphanumeric, is_ascii_hexdigit}
 use Rattle.bit_block.specs.declared.config.Config.{Config}
 use Rattle.bit_block.specs.declared.config.Width.{Width}
 use Rattle.bit_block.specs.declared.config.Width.TheVariants.{W64, W128, W256}
@@ -45,3 +45,11 @@ named w c =
 -- a configuration by its name or by its three widths
 abbrev pub Spells : List ℕ → Config → Type 0
 Spells w c = named w c ⊎ (w ≡ config_text c)
+
+-- one or more bytes of two hex digits each
+abbrev pub Hex : List ℕ → Type 0
+Hex w = (0 < length w) × (length w % 2 ≡ 0) × ((i : ℕ) → i < length w → is_ascii_hexdigit (slice_index w i) ≡ true)
+
+-- the hex digits of bytes: the word itself, and none for a hyphen
+abbrev pub HexDigits : List ℕ → List ℕ → Type 0
+HexDigits w digits = ((w ≡ codes "-") × (digits ≡ [])) ⊎ (Hex w × (digits ≡ w))

@@ -6,7 +6,7 @@ use Rattle.commands.specs.declared.verb.Rule.{Rule}
 use Rattle.commands.specs.declared.verb.Rule.TheVariants.{Emphasis, Languages, Notes, Pages}
 use Rattle.commands.specs.declared.verb.Verb.{Verb}
 use Rattle.commands.specs.declared.verb.Verb.TheVariants as verb
-use Rattle.commands.specs.declared.verb.Verb.TheVariants.{Draft, Mark, Clear, Has, Next, Runs, Count, Pack, Words, Image, Write, Check}
+use Rattle.commands.specs.declared.verb.Verb.TheVariants.{Draft, Mark, Clear, Has, Next, Runs, Count, Pack, Words, Image, Write, Load, Read, Check}
 
 -- the word of each layer
 abbrev pub layer_word : Layer → List ℕ
@@ -36,4 +36,6 @@ verb_word Pack = codes "pack"
 verb_word Words = codes "words"
 verb_word Image = codes "image"
 verb_word Write = codes "write"
+verb_word Load = codes "load"
+verb_word Read = codes "read"
 verb_word (Check rule) = rule_word rule

@@ -1,9 +1,10 @@
 // A line of a script as a command.
 ghost use Rattle.std.specs.Prelude.{IfErr, IfOk, MatchResult};
-ghost use Rattle.commands.specs.Commands.{SpellsCommand, SpellsDraft, SpellsPack, SpellsLayer, SpellsWrite};
+ghost use Rattle.commands.specs.Commands.{SpellsCommand, SpellsDraft, SpellsPack, SpellsLayer, SpellsWrite, SpellsLoad, SpellsRead};
 
 use crate::error::LineError;
 use crate::operand;
+use crate::options::{LoadOptions, more_options};
 use crate::verb::{Layer, Rule, Verb};
 use bit_block::config::Config;
 
@@ -110,6 +111,19 @@ pub enum Command<'a> {
         name: &'a str,
         file: &'a str,
     },
+    // the image in bytes, by their hex digits, is loaded
+    Load {
+        name: &'a str,
+        config: Config,
+        bytes: &'a [u8],
+        options: LoadOptions,
+    },
+    // or the one in a file
+    Read {
+        name: &'a str,
+        config: Config,
+        file: &'a str,
+    },
     Check(Rule, Pair<'a>),
 }
 
@@ -133,6 +147,10 @@ pub fn parse<'a>(word: &'a [u8], operands: &[&'a [u8]]) -> Result<Command<'a>, L
         (Verb::Words, &[name]) => operand::name(name).map(Command::Words),
         (Verb::Image, &[name]) => operand::name(name).map(Command::Image),
         (Verb::Write, &[name, file]) => parse_write(name, file),
+        (Verb::Load, &[name, config, bytes, ref options @ ..]) => {
+            parse_load(name, config, bytes, options)
+        }
+        (Verb::Read, &[name, config, file]) => parse_read(name, config, file),
         (Verb::Check(rule), &[first, second]) => {
             Ok(Command::Check(rule, Pair::try_from([first, second])?))
         }
@@ -175,6 +193,40 @@ fn parse_write<'a>(name: &'a [u8], file: &'a [u8]) -> Result<Command<'a>, LineEr
     Ok(Command::Write {
         name: operand::name(name)?,
         file: operand::file(file)?,
+    })
+}
+
+// The command that loads an image from bytes.
+fn parse_load<'a>(
+    name: &'a [u8],
+    config: &'a [u8],
+    bytes: &'a [u8],
+    options: &[&'a [u8]],
+) -> Result<Command<'a>, LineError<'a>>
+    ensures ok { IfOk result (SpellsLoad name.entry config.entry bytes.entry options.now) }
+    ensures err { IfErr result (λ _. (c : Command) → SpellsLoad name.entry config.entry bytes.entry options.now c → ⊥) }
+{
+    Ok(Command::Load {
+        name: operand::name(name)?,
+        config: operand::config(config)?,
+        bytes: operand::hex(bytes)?,
+        options: more_options(LoadOptions::NONE, options)?,
+    })
+}
+
+// The command that loads an image from a file.
+fn parse_read<'a>(
+    name: &'a [u8],
+    config: &'a [u8],
+    path: &'a [u8],
+) -> Result<Command<'a>, LineError<'a>>
+    ensures ok { IfOk result (SpellsRead name.entry config.entry path.entry) }
+    ensures err { IfErr result (λ _. (c : Command) → SpellsRead name.entry config.entry path.entry c → ⊥) }
+{
+    Ok(Command::Read {
+        name: operand::name(name)?,
+        config: operand::config(config)?,
+        file: operand::file(path)?,
     })
 }
 

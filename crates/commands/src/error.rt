@@ -21,12 +21,22 @@ pub enum LineError<'a> {
     NotName(&'a [u8]),
     #[error("'{}' is not a FILE (text in UTF-8)", .0.escape_ascii())]
     NotText(&'a [u8]),
+    #[error("'{}' is not BYTES (hex digits, two a byte, or '-' for none)", .0.escape_ascii())]
+    NotBytes(&'a [u8]),
+    #[error("'{}' is not a CODE (a number of at most 16 bits)", .0.escape_ascii())]
+    NotCode(&'a [u8]),
+    #[error("'{}' is not an option (words=W, limit=M or device=CODE)", .0.escape_ascii())]
+    UnknownOption(&'a [u8]),
+    #[error("'{}' gives an option again", .0.escape_ascii())]
+    OptionTwice(&'a [u8]),
     #[error("no set is named '{0}'")]
     NoSuchSet(&'a str),
     #[error("'{0}' is not a draft")]
     NotDraft(&'a str),
     #[error("{file}: {error}")]
     NotWritten { file: &'a str, error: io::Error },
+    #[error("{file}: {error}")]
+    NotRead { file: &'a str, error: io::Error },
     #[error("out of memory")]
     OutOfMemory(#[from(alloc)] AllocError),
 }

@@ -5,4 +5,5 @@ pub mod command;
 pub mod error;
 pub mod line;
 pub mod operand;
+pub mod options;
 pub mod verb;

@@ -1,7 +1,7 @@
-// The operands of commands: numbers, names, files and configurations.
-ghost use Rattle.std.specs.Prelude.{◌≡◌, ◌^◌, ◌<◌, MatchBool, MatchOption, MatchResult, ◌≢◌, IsUtf8};
+// The operands of commands: numbers, names, files, configurations and bytes.
+ghost use Rattle.std.specs.Prelude.{◌≡◌, ◌^◌, ◌<◌, MatchBool, MatchOption, MatchResult, ◌≢◌, IsUtf8, ℕ, List};
 ghost use Rattle.std.specs.Result.{OkIff};
-ghost use Rattle.commands.specs.Operands.{Decimal, decimal_value, Name, width_text, config_text, Spells};
+ghost use Rattle.commands.specs.Operands.{Decimal, decimal_value, Name, width_text, config_text, Spells, Hex, HexDigits};
 
 use crate::error::LineError;
 use bit_block::config::{Config, Width};
@@ -22,6 +22,14 @@ pub fn number<'a>(word: &'a [u8]) -> Result<usize, LineError<'a>>
     }
     let digits = std::str::from_utf8(word).unwrap();
     digits.parse().map_err(|_| LineError::NumberTooLarge(word))
+}
+
+// A decimal number of at most 16 bits.
+pub fn code<'a>(word: &'a [u8]) -> Result<u16, LineError<'a>>
+    ensures { OkIff result (Decimal word.now × (decimal_value word.now < 2 ^ 16)) (decimal_value word.now) }
+{
+    let code = number(word).map_err(|_| LineError::NotCode(word))?;
+    u16::try_from(code).map_err(|_| LineError::NotCode(word))
 }
 
 // Whether a word is one or more letters, digits, hyphens and underscores.
@@ -87,5 +95,23 @@ pub fn config<'a>(word: &'a [u8]) -> Result<Config, LineError<'a>>
         b"book" => Ok(Config::BOOK),
         b"large" => Ok(Config::LARGE),
         _ => three_widths(word).ok_or(LineError::NotConfig(word)),
+    }
+}
+
+// Whether a word is one or more bytes of two hex digits each.
+fn is_hex(word: &[u8]) -> bool
+    ensures { MatchBool result (Hex word.now) (Hex word.now → ⊥) }
+{
+    !word.is_empty() && word.len() % 2 == 0 && word.iter().all(|b| b.is_ascii_hexdigit())
+}
+
+// The hex digits of bytes, two a byte; a hyphen stands for none.
+pub fn hex<'a>(word: &'a [u8]) -> Result<&'a [u8], LineError<'a>>
+    ensures { MatchResult result (λ digits. HexDigits word.now digits.now) (λ _. (digits : List ℕ) → HexDigits word.now digits → ⊥) }
+{
+    match word {
+        b"-" => Ok(&[]),
+        _ if is_hex(word) => Ok(word),
+        _ => Err(LineError::NotBytes(word)),
     }
 }

@@ -117,11 +117,13 @@ pub enum Verb {
     Words,
     Image,
     Write,
+    Load,
+    Read,
     Check(Rule),
 }
 
 impl Verb {
-    pub const ALL: [Verb; 19] = [
+    pub const ALL: [Verb; 21] = [
         Verb::Draft,
         Verb::Mark,
         Verb::Clear,
@@ -137,6 +139,8 @@ impl Verb {
         Verb::Words,
         Verb::Image,
         Verb::Write,
+        Verb::Load,
+        Verb::Read,
         Verb::Check(Rule::Emphasis),
         Verb::Check(Rule::Languages),
         Verb::Check(Rule::Notes),
@@ -160,6 +164,8 @@ impl Verb {
             Verb::Words => "words",
             Verb::Image => "image",
             Verb::Write => "write",
+            Verb::Load => "load",
+            Verb::Read => "read",
             Verb::Check(rule) => rule.word(),
         }
     }
@@ -174,6 +180,8 @@ impl Verb {
             Verb::Runs | Verb::Count | Verb::Words | Verb::Image => "NAME",
             Verb::Pack => "NAME [WORDS]",
             Verb::Write => "NAME FILE",
+            Verb::Load => "NAME CONFIG BYTES [words=W] [limit=M] [device=CODE]",
+            Verb::Read => "NAME CONFIG FILE",
             Verb::Check(rule) => rule.operands(),
         }
     }
@@ -195,6 +203,9 @@ impl Verb {
                 "the words that packing fills, 16 hex digits each, or none, or refused: Void",
             Verb::Image => "the bytes of the image, 2 hex digits each, or refused: Void",
             Verb::Write => "wrote L bytes, or refused: Void; FILE then has the bytes of the image",
+            Verb::Load =>
+                "loaded: n N, d D, left K, of the image in BYTES, of which K are left, or refused: X, left K",
+            Verb::Read => "as load, of the bytes of FILE",
             Verb::Check(rule) => rule.prints(),
         }
     }

@@ -5,6 +5,7 @@ ghost use Rattle.certificate.specs.Faults.{fault};
 ghost use Rattle.stylebook.specs.Listed.{AllRuns};
 ghost use Rattle.stylebook.specs.Verdicts.{condition_of, Verdict};
 
+use crate::loaded::{Loading, bytes_of, load};
 use crate::packed::{Packed, image, pack};
 use crate::refusal::{Declined, Refusal};
 use crate::sets::{Kind, Positions, Sets};
@@ -15,12 +16,13 @@ use certificate::conditions::{Condition, comparable};
 use certificate::runs::{Run, count_held, runs_of};
 use commands::command::{Command, Pair, Span};
 use commands::error::LineError;
+use commands::options::LoadOptions;
 use commands::verb::{Layer, Rule};
 use draft::{Draft, DraftView, words_needed};
 use ops::{Both, Either, OneOf, Without};
 use std::alloc::{AllocError, Global};
 use std::rt::Files;
-use std::{fmt, fs};
+use std::{fmt, fs, io};
 
 // What a command answers.
 #[derive(Drop)]
@@ -39,13 +41,17 @@ pub enum Answer {
     Image(Vec<u8>),
     // how many bytes were written into a file
     Wrote(usize),
+    // the numbers of a set that was loaded, and how many bytes are still to come
+    Loaded { n: u16, d: u32, left: usize },
+    // why none was loaded, and how many bytes are still to come
+    NotLoaded(Refusal, usize),
     // the runs at fault under a rule
     Faults(Rule, Vec<Run>),
 }
 
 // Carries out a command. A refusal of the library is an answer.
 pub fn respond<'a>(
-    files: &impl Files,
+    files: &(impl Files + Alloc),
     sets: &mut Sets,
     command: Command<'a>,
 ) -> Result<Answer, LineError<'a>> {
@@ -57,7 +63,7 @@ pub fn respond<'a>(
 
 // Carries out a command.
 fn carry_out<'a>(
-    files: &impl Files,
+    files: &(impl Files + Alloc),
     sets: &mut Sets,
     command: Command<'a>,
 ) -> Result<Answer, Declined<'a>> {
@@ -89,6 +95,25 @@ fn carry_out<'a>(
         Command::Write { name, file } => {
             write_file(files, file, image(heap, &sets.view(name)?)?.as_slice())
         }
+        Command::Load {
+            name,
+            config,
+            bytes,
+            options,
+        } => new_loaded(
+            sets,
+            name,
+            config,
+            bytes_of(heap, bytes)?.as_slice(),
+            options,
+        ),
+        Command::Read { name, config, file } => new_loaded(
+            sets,
+            name,
+            config,
+            read_file(files, file)?.as_slice(),
+            LoadOptions::NONE,
+        ),
         Command::Check(rule, Pair { first, second }) => {
             check(heap, rule, &sets.view(first)?, &sets.view(second)?)
         }
@@ -136,6 +161,39 @@ fn laid<'n, 'v>(
         Layer::Without => Positions::of(heap, &Without::new(a, b)),
         Layer::OneOf => Positions::of(heap, &OneOf::new(a, b)),
     }
+}
+
+// Loads a set from bytes, and puts its positions under a name.
+fn new_loaded<'a>(
+    sets: &mut Sets,
+    name: &'a str,
+    config: Config,
+    bytes: &[u8],
+    options: LoadOptions,
+) -> Result<Answer, Declined<'a>> {
+    let Loading { set, left } = load(sets.heap, config, bytes, options)?;
+    match set {
+        Ok(set) => {
+            sets.put(name, Kind::Layer, set.positions)?;
+            Ok(Answer::Loaded {
+                n: set.n,
+                d: set.d,
+                left,
+            })
+        }
+        Err(refusal) => Ok(Answer::NotLoaded(refusal, left)),
+    }
+}
+
+// The bytes of a file. Want of memory is told as that.
+fn read_file<'n, R: Files + Alloc>(
+    files: &R,
+    file: &'n str,
+) -> Result<Vec<u8, R::A>, Declined<'n>> {
+    fs::read(files, file).map_err(|error| match error.kind() {
+        io::ErrorKind::OutOfMemory => Declined::from(AllocError),
+        _ => Declined::BadLine(LineError::NotRead { file, error }),
+    })
 }
 
 // Writes bytes into a file, in place of what it had.
@@ -245,6 +303,8 @@ impl fmt::Display for Answer {
             Answer::Words(words) => write_words(words, f),
             Answer::Image(bytes) => write_bytes(bytes, f),
             Answer::Wrote(count) => write!(f, "wrote {count} bytes"),
+            Answer::Loaded { n, d, left } => write!(f, "loaded: n {n}, d {d}, left {left}"),
+            Answer::NotLoaded(refusal, left) => write!(f, "refused: {refusal}, left {left}"),
             Answer::Faults(rule, faults) if faults.is_empty() => write!(f, "{rule}: holds"),
             Answer::Faults(rule, faults) => {
                 write!(f, "{rule}: fails at ")?;

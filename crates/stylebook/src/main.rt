@@ -3,6 +3,7 @@
 
 mod answer;
 mod help;
+mod loaded;
 mod packed;
 mod refusal;
 mod script;

@@ -2,15 +2,46 @@
 use commands::error::LineError;
 use draft::DraftError;
 use immutable_bitset::error::{FillError, SerializeError};
+use serialization::error::{AccessError, Rule};
 use std::alloc::AllocError;
+use std::fmt;
 use thiserror::Error;
+
+// A refused filling as it is printed: why bytes are no image without a name around it, and a rule by its number.
+#[derive(Clone, Copy)]
+struct FillText(FillError);
+
+impl fmt::Display for FillText {
+    // The name of the refusal.
+    fn fmt<W: fmt::Write>(&self, f: &mut fmt::Formatter<W>) -> fmt::Result {
+        match self.0 {
+            FillError::Access(AccessError::Broken(rule, place)) => {
+                write!(f, "Broken({}, {place})", rule_number(rule))
+            }
+            FillError::Access(error) => write!(f, "{error:?}"),
+            error => write!(f, "{error:?}"),
+        }
+    }
+}
+
+// The number of a rule of images.
+fn rule_number(rule: Rule) -> u8 {
+    match rule {
+        Rule::Level1Count => 1,
+        Rule::Level0Start => 2,
+        Rule::Level1Mask => 3,
+        Rule::Level1Start => 4,
+        Rule::DataCount => 5,
+        Rule::DataBlock => 6,
+    }
+}
 
 // What the library refused, printed by its name.
 #[derive(Clone, Copy, PartialEq, Eq, Debug, Error)]
 pub enum Refusal {
     #[error("{0:?}")]
     Draft(#[from] DraftError),
-    #[error("{0:?}")]
+    #[error("{}", FillText(*.0))]
     Fill(#[from] FillError),
     #[error("{0:?}")]
     Serialize(#[from] SerializeError),

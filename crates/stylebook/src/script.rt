@@ -27,7 +27,7 @@ pub fn print(rt: &HostRuntime, text: &str) -> Result<(), Failed> {
 
 // Carries out a line, and gives the line to print; none where the line has no command.
 fn answered<'a>(
-    files: &impl Files,
+    files: &(impl Files + Alloc),
     sets: &mut Sets,
     line: &'a [u8],
 ) -> Result<Option<String>, LineError<'a>> {

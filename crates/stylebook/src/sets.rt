@@ -58,7 +58,7 @@ impl Positions {
 pub enum Kind {
     // a draft, which can
     Draft,
-    // the positions that a layer had when it was made
+    // the positions that a layer had when it was made, or that a loaded set holds
     Layer,
 }
 

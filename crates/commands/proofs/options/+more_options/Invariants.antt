@@ -1,0 +1,8 @@
+use Rattle.std.proofs.Common.{length, ◌≡◌, ◌≢◌, ◌++◌, List, ℕ, MatchOption, MatchResult, codes, ◌+◌, ◌-◌, ◌*◌, ◌<◌, ◌≤◌}
+use Rattle.commands.specs.declared.options.LoadOptions.{LoadOptions}
+use Rattle.commands.specs.Options.{Adds, AddsWords, AddsLimit, AddsDevice, SpellsOptions, no_options}
+use Rattle.commands.proofs.options.+more_options.Given as goal
+
+-- proposed from what the function passes where it calls itself
+abbrev pub decreases-more_options : goal.decreases-more_options
+decreases-more_options l = length l.words.now
