@@ -10,8 +10,6 @@ mod language;
 #[cfg(test)]
 mod layers;
 #[cfg(test)]
-mod loads;
-#[cfg(test)]
 mod masks;
 #[cfg(test)]
 mod packed;

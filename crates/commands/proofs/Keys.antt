@@ -1,5 +1,5 @@
 -- Words that give options.
-use Rattle.std.proofs.Common.{◌≡◌, ◌≢◌, ℕ, ◌<◌, arith, inl, inr, get_or, slice_index_or, Result, Ok, Err, true, false, nat_eq, List, [], ◌∷◌, ◌++◌, length, take, drop, codes, Bor, Option, Some, None, refl, ap, sym, subst, ◌∙◌}
+use Rattle.std.proofs.Common.{◌≡◌, ◌≢◌, ℕ, ◌<◌, arith, inl, inr, get_or, slice_index_or, Result, Ok, Err, true, false, nat_eq, List, [], ◌∷◌, ◌++◌, length, take, drop, codes, Bor, Option, Some, None, ap, sym, subst, ◌∙◌}
 use Rattle.std.specs.Option.{MatchOption}
 use Rattle.std.specs.Result.{MatchResult, IsErr}
 use Rattle.std.specs.Cmp.Lexicographic.{pointwise, same_text, told_text}

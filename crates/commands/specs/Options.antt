@@ -1,5 +1,5 @@
 -- The options of a command that loads.
-use Rattle.std.specs.Prelude.{◌≡◌, ℕ, ◌^◌, ◌<◌, ◌⊎◌, List, [], ◌∷◌, ◌++◌, codes, Option, Some, None}
+use Rattle.std.specs.Prelude.{◌≡◌, ℕ, ◌^◌, ◌<◌, ◌⊎◌, List, [], ◌∷◌, ◌++◌, codes, Some, None}
 use Rattle.std.specs.Borrow.{Bor}
 use Rattle.commands.specs.declared.options.LoadOptions.{LoadOptions}
 use Rattle.commands.specs.Operands.{Decimal, decimal_value}

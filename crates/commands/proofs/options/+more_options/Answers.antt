@@ -1,5 +1,5 @@
 use Rattle.std.proofs.Common.{arith}
-use Rattle.commands.proofs.Keys.{no_first, then_rest}
+use Rattle.commands.proofs.Keys.{no_first}
 use Rattle.commands.proofs.options.+more_options.Goals as goal
 
 pub returns-in_err-with-in-len1-up : goal.returns-in_err-with-in-len1-up

@@ -1,6 +1,4 @@
-use Rattle.std.proofs.Common.{length, ◌≡◌, ◌≢◌, ◌++◌, List, ℕ, MatchOption, MatchResult, codes, ◌+◌, ◌-◌, ◌*◌, ◌<◌, ◌≤◌}
-use Rattle.commands.specs.declared.options.LoadOptions.{LoadOptions}
-use Rattle.commands.specs.Options.{Adds, AddsWords, AddsLimit, AddsDevice, SpellsOptions, no_options}
+use Rattle.std.proofs.Common.{length}
 use Rattle.commands.proofs.options.+more_options.Given as goal
 
 -- proposed from what the function passes where it calls itself
