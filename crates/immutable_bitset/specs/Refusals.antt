@@ -1,17 +1,15 @@
 -- The refusals of a filling, by number.
-use Rattle.std.specs.Prelude.{ℕ, cond, [], ◌∷◌, is_some, Some, None, Ok, Err, Option, Result, nat_le}
+use Rattle.std.specs.Prelude.{ℕ, cond, [], is_some, Some, None, Ok, Err, Option, Result, nat_le}
 use Rattle.bitset_interface.specs.Source.{Source}
 use Rattle.bitset_interface.specs.Refusals.{Refusal, unless}
 use Rattle.packing.specs.Fills.{all_words}
 use Rattle.immutable_bitset.specs.declared.error.FillError.{FillError}
 use Rattle.immutable_bitset.specs.declared.error.FillError.TheVariants.{Void, NoMemory, Access}
 use Rattle.serialization.specs.Faults.{access_refusal}
+pub use Rattle.vetting.specs.Outcomes.{no_memory}
 
 abbrev pub is_void : Refusal
 is_void = record { number = 6; values = [] }
-
-abbrev pub no_memory : ℕ → Refusal
-no_memory w = record { number = 5; values = w ∷ [] }
 
 abbrev pub fill_refusal : FillError → Refusal
 fill_refusal Void = is_void
