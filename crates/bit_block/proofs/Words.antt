@@ -1,5 +1,5 @@
 -- Masks whose words are given one by one, and one bit written into words.
-use Rattle.std.proofs.Common.{◌≡◌, ℕ, suc, ◌+◌, ◌-◌, ◌*◌, ◌/◌, ◌%◌, ◌^◌, ◌<◌, ◌≤◌, Bool, true, false, cond, ◌&&◌, ◌||◌, eqb, ltb, List, length, get_or, set, min, drop, sym, refl, ap, ◌∙◌, ⊎_elim, pow-suc, arith, get_or-set_other, get_or-set_same, pow_pos, pow-add}
+use Rattle.std.proofs.Common.{◌≡◌, ℕ, zero, suc, ◌+◌, ◌-◌, ◌*◌, ◌/◌, ◌%◌, ◌^◌, ◌<◌, ◌≤◌, Bool, true, false, cond, ◌&&◌, ◌||◌, eqb, ltb, List, [], ◌∷◌, length, get_or, set, min, drop, sym, refl, ap, ◌∙◌, ⊎_elim, add-zero, pow-suc, arith, get_or-set_other, get_or-set_same, pow_pos, pow-add}
 use native.Mathlib.Nat.{div_self}
 use lib.Bits.{bit_or}
 use lib.Pow.{shl-shr}
@@ -33,6 +33,35 @@ module _ (f : ℕ → ℕ) (n : ℕ) (ws : List ℕ) (is : (q : ℕ) → get_or 
 -- the words that stand from `base` on
 abbrev pub from : List ℕ → ℕ → ℕ → ℕ
 from xs base q = get_or xs (base + q) 0
+
+-- four words, each as it stands
+pub four : (f : ℕ → ℕ) (n a b c d : ℕ) → n ≤ 4 → a ≡ cond (ltb 0 n) (f 0) 0 → b ≡ cond (ltb 1 n) (f 1) 0 → c ≡ cond (ltb 2 n) (f 2) 0 → d ≡ cond (ltb 3 n) (f 3) 0
+    → (q : ℕ) → get_or (a ∷ b ∷ c ∷ d ∷ []) q 0 ≡ cond (ltb q n) (f q) 0
+four f n a b c d le p q r s zero = p
+four f n a b c d le p q r s (suc zero) = q
+four f n a b c d le p q r s (suc (suc zero)) = r
+four f n a b c d le p q r s (suc (suc (suc zero))) = s
+four f n a b c d le p q r s (suc (suc (suc (suc m)))) = sym (cond-false (ltb (suc (suc (suc (suc m)))) n) (f (suc (suc (suc (suc m))))) 0 (le-ltb (suc (suc (suc (suc m)))) n (omega arith)))
+
+module _ (xs : List ℕ) (base : ℕ) (t : ℕ) where
+  at_base : get_or xs base 0 ≡ from xs base 0
+  at_base = ap (λ (x : ℕ). get_or xs x 0) (sym (add-zero base))
+
+  -- a mask of one, two or four of them
+  pub bits1 : raised (record { words = get_or xs base 0 ∷ 0 ∷ 0 ∷ 0 ∷ [] }) t ≡ (ltb t 64 && bit_of (from xs base (t / 64)) (t % 64))
+  bits1 = lanes_bits (from xs base) 1 (get_or xs base 0 ∷ 0 ∷ 0 ∷ 0 ∷ []) (four (from xs base) 1 (get_or xs base 0) 0 0 0 (omega arith) at_base refl refl refl) t
+
+  pub bits2 : raised (record { words = get_or xs base 0 ∷ get_or xs (base + 1) 0 ∷ 0 ∷ 0 ∷ [] }) t ≡ (ltb t 128 && bit_of (from xs base (t / 64)) (t % 64))
+  bits2 = lanes_bits (from xs base) 2 (get_or xs base 0 ∷ get_or xs (base + 1) 0 ∷ 0 ∷ 0 ∷ []) (four (from xs base) 2 (get_or xs base 0) (get_or xs (base + 1) 0) 0 0 (omega arith) at_base refl refl refl) t
+
+  pub bits4 : raised (record { words = get_or xs base 0 ∷ get_or xs (base + 1) 0 ∷ get_or xs (base + 2) 0 ∷ get_or xs (base + 3) 0 ∷ [] }) t ≡ (ltb t 256 && bit_of (from xs base (t / 64)) (t % 64))
+  bits4 = lanes_bits (from xs base) 4 (get_or xs base 0 ∷ get_or xs (base + 1) 0 ∷ get_or xs (base + 2) 0 ∷ get_or xs (base + 3) 0 ∷ []) (four (from xs base) 4 (get_or xs base 0) (get_or xs (base + 1) 0) (get_or xs (base + 2) 0) (get_or xs (base + 3) 0) (omega arith) at_base refl refl refl) t
+
+-- a word of what stands from `at` on, by its place in the whole
+pub dropped : (xs : List ℕ) (at k t : ℕ) → (ltb t k && bit_of (from (drop at xs) 0 (t / 64)) (t % 64)) ≡ (ltb t k && bit_of (get_or xs (at + t / 64) 0) (t % 64))
+dropped xs at k t =
+    let zero-first : 0 + t / 64 ≡ t / 64 = omega arith in
+    ap (λ (x : ℕ). ltb t k && bit_of x (t % 64)) (ap (λ (q : ℕ). get_or (drop at xs) q 0) zero-first ∙ get_or-drop at xs (t / 64) 0)
 
 same-and : (p q : Bool) → q ≡ true → (p && q) ≡ p
 same-and true q e = e

@@ -57,6 +57,7 @@ impl Mask {
     }
 
     // Every bit below the width.
+    #[inline(always)]
     pub fn full(width: Width) -> Mask
         ensures { (t : ℕ) → raised result t ≡ nat_lt t (bits width) }
     {
@@ -66,17 +67,32 @@ impl Mask {
         }
     }
 
-    // The mask whose words stand in a slice from place `at` on; a word past the slice's end is 0.
-    pub fn from_words(words: &[u64], at: usize, width: Width) -> Mask
-        ensures { (t : ℕ) → raised result t ≡ (nat_lt t (bits width) && bit_of (slice_index words.now (at + t / 64)) (t % 64)) }
+    // The mask whose words are the first of a slice; a word past the slice's end is 0.
+    fn of_first(there: &[u64], width: Width) -> Mask
+        ensures { (t : ℕ) → raised result t ≡ (nat_lt t (bits width) && bit_of (slice_index there.now (t / 64)) (t % 64)) }
     {
-        let there = onward(words, at);
-        if let (Width::W256, Some(four)) = (width, there.first_chunk()) {
-            return Mask { words: *four }; // in one read: the rest below looks at each word
-        }
         let count = there.len().min(width.bits() / 64);
         Mask {
             words: array::from_fn(|q| if q < count { there[q] } else { 0 }),
+        }
+    }
+
+    // The mask whose words stand in a slice from place `at` on; a word past the slice's end is 0.
+    #[inline(always)]
+    pub fn from_words(words: &[u64], at: usize, width: Width) -> Mask
+        ensures { (t : ℕ) → raised result t ≡ (nat_lt t (bits width) && bit_of (slice_index words.now (at + t / 64)) (t % 64)) }
+    {
+        match (width, onward(words, at)) {
+            (Width::W64, [a, ..]) => Mask {
+                words: [*a, 0, 0, 0],
+            },
+            (Width::W128, [a, b, ..]) => Mask {
+                words: [*a, *b, 0, 0],
+            },
+            (Width::W256, [a, b, c, d, ..]) => Mask {
+                words: [*a, *b, *c, *d],
+            },
+            (_, there) => Mask::of_first(there, width), // some are missing
         }
     }
 
@@ -100,6 +116,7 @@ impl Mask {
     }
 
     // The mask whose words are those of two masks, joined word by word.
+    #[inline(always)]
     fn zip<F: Fn(u64, u64) -> u64>(self, other: Mask, join: F) -> Mask
         requires { F.IsAlwaysCallable join }
         ensures { (q : ℕ) → q < 4 → F.post join (slice_index self.words q) (slice_index other.words q) (slice_index result.words q) }
@@ -110,6 +127,7 @@ impl Mask {
     }
 
     // The bits in both.
+    #[inline(always)]
     pub fn and(self, other: Mask) -> Mask
         ensures { (t : ℕ) → raised result t ≡ (raised self t && raised other t) }
     {
@@ -117,6 +135,7 @@ impl Mask {
     }
 
     // The bits in at least one.
+    #[inline(always)]
     pub fn or(self, other: Mask) -> Mask
         ensures { (t : ℕ) → raised result t ≡ (raised self t || raised other t) }
     {
@@ -124,6 +143,7 @@ impl Mask {
     }
 
     // The bits in just one of the two.
+    #[inline(always)]
     pub fn xor(self, other: Mask) -> Mask
         ensures { (t : ℕ) → raised result t ≡ exclusive (raised self t) (raised other t) }
     {
@@ -131,6 +151,7 @@ impl Mask {
     }
 
     // The bits in the first only.
+    #[inline(always)]
     pub fn without(self, other: Mask) -> Mask
         ensures { (t : ℕ) → raised result t ≡ (raised self t && not (raised other t)) }
     {
@@ -138,6 +159,7 @@ impl Mask {
     }
 
     // Whether no bit is raised.
+    #[inline(always)]
     pub fn is_zero(self) -> bool
         ensures none { result ≡ true → (t : ℕ) → raised self t ≡ false }
         ensures some { result ≡ false → (t : ℕ) × (raised self t ≡ true) }

@@ -16,6 +16,9 @@ use bit_block::mask::Mask;
 pub trait LevelMasks {
     ghost means: { Self → Source };
 
+    // What it means keeps the laws of a source. Above the functions, so that a clause can name it too.
+    ghost lawful: { (s : Self) → Lawful (means s) };
+
     // The configuration; None where the source is void.
     fn config(&self) -> Option<Config>
         ensures { result ≡ (means self.now).conf };
@@ -35,9 +38,6 @@ pub trait LevelMasks {
     // The data block at (i, j); zero where bit j of level-1 mask i is not raised or an index is past its width.
     fn data_mask(&self, i: usize, j: usize) -> Mask
         ensures { (t : ℕ) → raised result t ≡ (means self.now).up2 i j t };
-
-    // What it means keeps the laws of a source.
-    ghost lawful: { (s : Self) → Lawful (means s) };
 }
 
 // What is lent is a source of the same meaning.
@@ -46,22 +46,27 @@ impl<S: LevelMasks> LevelMasks for &S {
 
     ghost lawful = { λ s. S.LevelMasks.lawful s.now };
 
+    #[inline(always)]
     fn config(&self) -> Option<Config> {
         (**self).config()
     }
 
+    #[inline(always)]
     fn trusted(&self) -> bool {
         (**self).trusted()
     }
 
+    #[inline(always)]
     fn level0_mask(&self) -> Mask {
         (**self).level0_mask()
     }
 
+    #[inline(always)]
     fn level1_mask(&self, i: usize) -> Mask {
         (**self).level1_mask(i)
     }
 
+    #[inline(always)]
     fn data_mask(&self, i: usize, j: usize) -> Mask {
         (**self).data_mask(i, j)
     }

@@ -1,3 +1,4 @@
 pub mod Maximal
 pub mod Counted
 pub mod Marks
+pub mod Faulted

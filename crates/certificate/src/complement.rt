@@ -15,6 +15,7 @@ impl<S: LevelMasks> LevelMasks for Complement<S> {
 
     ghost lawful = { λ s. complement_lawful (S.LevelMasks.means s.0) };
 
+    #[inline(always)]
     fn config(&self) -> Option<Config> {
         self.0.config()
     }
@@ -31,6 +32,7 @@ impl<S: LevelMasks> LevelMasks for Complement<S> {
         every_level1(self.0.config(), i)
     }
 
+    #[inline(always)]
     fn data_mask(&self, i: usize, j: usize) -> Mask {
         match self.0.config() {
             Some(c) if i < c.level0.bits() && j < c.level1.bits() => {

@@ -1,8 +1,9 @@
 // The two kinds of condition that a certificate puts to a pair of styles.
-ghost use Rattle.std.specs.Prelude.{◌≡◌};
-ghost use Rattle.bit_block.specs.Widths.{live};
+ghost use Rattle.std.specs.Prelude.{◌≡◌, ◌-◌};
+ghost use Rattle.std.specs.Iterator.{at_most};
+ghost use Rattle.bit_block.specs.Widths.{live, shared, capacity};
 ghost use Rattle.certificate.specs.Runs.{RunFrom};
-ghost use Rattle.certificate.specs.Faults.{fault};
+ghost use Rattle.certificate.specs.Faults.{fault, FaultWalks};
 
 use crate::runs::{Run, next_run};
 use bit_block::config::common;
@@ -38,5 +39,43 @@ pub fn next_fault<A: LevelMasks, B: LevelMasks>(
     match condition {
         Condition::Inside => next_run(&Without::new(a, b), p),
         Condition::Same => next_run(&OneOf::new(a, b), p),
+    }
+}
+
+// The runs at which two sources break a condition one after another, from where the walk stands.
+#[derive(Drop)]
+pub struct Faults<A, B> {
+    pub condition: Condition,
+    pub first: A,
+    pub second: B,
+    pub at: usize,
+}
+
+// Every run at which two sources break a condition, in rising position.
+pub fn faults_of<A, B>(condition: Condition, a: A, b: B) -> Faults<A, B>
+    ensures condition { result.condition ≡ condition }
+    ensures first { result.first ≡ a }
+    ensures second { result.second ≡ b }
+    ensures at { result.at ≡ 0 }
+{
+    Faults {
+        condition,
+        first: a,
+        second: b,
+        at: 0,
+    }
+}
+
+impl<A: LevelMasks + Drop, B: LevelMasks + Drop> Iterator for Faults<A, B> {
+    type Item = Run;
+
+    ghost next_gives = { FaultWalks A.LevelMasks.means B.LevelMasks.means };
+
+    ghost remaining = { λ s. at_most (capacity (shared (A.LevelMasks.means s.first).conf (B.LevelMasks.means s.second).conf) - s.at) };
+
+    fn next(&mut self) -> Option<Run> {
+        let run = next_fault(self.condition, &self.first, &self.second, self.at)?;
+        self.at = run.to;
+        Some(run)
     }
 }

@@ -2,7 +2,7 @@
 use Rattle.std.proofs.Common.{◌≡◌, ℕ, ◌≤◌, List, [], ◌∷◌, length, get_or, drop, Option, Some, Bor, Result, Ok, Err, arith, refl, ap, sym, subst, ◌∙◌}
 use Rattle.std.specs.List.{find}
 use Rattle.std.specs.Str.{bytes_eq}
-use Rattle.std.specs.Result.{IfErr, MatchResult, is_ok}
+use Rattle.std.specs.Result.{IfErr}
 use Rattle.commands.specs.declared.command.Command.{Command}
 use Rattle.commands.specs.declared.command.Command.TheVariants.{Draft, Mark, Clear, Has, Next, Load, Read, Check}
 use Rattle.commands.specs.declared.command.Span.{Span}
@@ -170,13 +170,6 @@ no_next operands none c h = absurd h
 pub no_check : (rule : Rule) (operands : List (Bor (List ℕ))) → ((s : Pair) → SpellsPair operands s → ⊥) → (c : Command) → SpellsOperands (verb.Check rule) operands c → ⊥
 no_check rule (a ∷ (b ∷ [])) none (Check r p) h = none p h.1
 no_check rule operands none c h = absurd h
-
--- an error that a call passes on through `map`
-pub IfErr-map : {T D E : Type 0} (P Q : T → Type 0) (r : Result T E) (s : Result D E) → MatchResult r P (λ _. (x : T) → Q x → ⊥) → is_ok s ≡ is_ok r → IfErr s (λ _. (x : T) → Q x → ⊥)
-IfErr-map P Q (Ok x) (Ok y) h e = tt
-IfErr-map P Q (Ok x) (Err y) h e = absurd cc
-IfErr-map P Q (Err x) (Ok y) h e = tt
-IfErr-map P Q (Err x) (Err y) h e = h
 
 -- what holds of a list holds of its two elements
 pub at_two : {A : Type 0} (P : List A → Type 0) (xs : List A) (a b : A) → length xs ≡ 2 → P xs → P (get_or xs 0 a ∷ (get_or xs 1 b ∷ []))

@@ -2,5 +2,4 @@ mod Commands
 mod Keys
 mod Lines
 mod Spelled
-mod Verbs
 mod Widths

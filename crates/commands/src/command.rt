@@ -24,7 +24,8 @@ impl<'a> TryFrom<[&'a [u8]; 3]> for Span<'a> {
 
     ghost try_from_gives = { λ words r. MatchResult r (SpellsSpan words) (λ _. (s : Span) → SpellsSpan words s → ⊥) };
 
-    // A name and two numbers.
+    // A name and two numbers. Inlined, as an error is large to hand on.
+    #[inline(always)]
     fn try_from([name, from, to]: [&'a [u8]; 3]) -> Result<Span<'a>, LineError<'a>> {
         Ok(Span {
             name: operand::name(name)?,
@@ -49,7 +50,8 @@ impl<'a> TryFrom<[&'a [u8]; 2]> for Place<'a> {
 
     ghost try_from_gives = { λ words r. MatchResult r (SpellsPlace words) (λ _. (s : Place) → SpellsPlace words s → ⊥) };
 
-    // A name and a number.
+    // A name and a number. Inlined, as an error is large to hand on.
+    #[inline(always)]
     fn try_from([name, position]: [&'a [u8]; 2]) -> Result<Place<'a>, LineError<'a>> {
         Ok(Place {
             name: operand::name(name)?,
@@ -73,7 +75,8 @@ impl<'a> TryFrom<[&'a [u8]; 2]> for Pair<'a> {
 
     ghost try_from_gives = { λ words r. MatchResult r (SpellsPair words) (λ _. (s : Pair) → SpellsPair words s → ⊥) };
 
-    // Two names.
+    // Two names. Inlined, as an error is large to hand on.
+    #[inline(always)]
     fn try_from([first, second]: [&'a [u8]; 2]) -> Result<Pair<'a>, LineError<'a>> {
         Ok(Pair {
             first: operand::name(first)?,
@@ -135,17 +138,17 @@ pub fn parse<'a>(word: &'a [u8], operands: &[&'a [u8]]) -> Result<Command<'a>, L
     match (Verb::try_from(word)?, operands) {
         (Verb::Draft, &[name, config]) => parse_draft(name, config, None),
         (Verb::Draft, &[name, config, words]) => parse_draft(name, config, Some(words)),
-        (Verb::Mark, &[name, from, to]) => Span::try_from([name, from, to]).map(Command::Mark),
-        (Verb::Clear, &[name, from, to]) => Span::try_from([name, from, to]).map(Command::Clear),
+        (Verb::Mark, &[name, from, to]) => Ok(Command::Mark(Span::try_from([name, from, to])?)),
+        (Verb::Clear, &[name, from, to]) => Ok(Command::Clear(Span::try_from([name, from, to])?)),
         (Verb::Layer(layer), &[name, first, second]) => parse_layer(layer, name, [first, second]),
-        (Verb::Has, &[name, position]) => Place::try_from([name, position]).map(Command::Has),
-        (Verb::Next, &[name, position]) => Place::try_from([name, position]).map(Command::Next),
-        (Verb::Runs, &[name]) => operand::name(name).map(Command::Runs),
-        (Verb::Count, &[name]) => operand::name(name).map(Command::Count),
+        (Verb::Has, &[name, position]) => Ok(Command::Has(Place::try_from([name, position])?)),
+        (Verb::Next, &[name, position]) => Ok(Command::Next(Place::try_from([name, position])?)),
+        (Verb::Runs, &[name]) => Ok(Command::Runs(operand::name(name)?)),
+        (Verb::Count, &[name]) => Ok(Command::Count(operand::name(name)?)),
         (Verb::Pack, &[name]) => parse_pack(name, None),
         (Verb::Pack, &[name, words]) => parse_pack(name, Some(words)),
-        (Verb::Words, &[name]) => operand::name(name).map(Command::Words),
-        (Verb::Image, &[name]) => operand::name(name).map(Command::Image),
+        (Verb::Words, &[name]) => Ok(Command::Words(operand::name(name)?)),
+        (Verb::Image, &[name]) => Ok(Command::Image(operand::name(name)?)),
         (Verb::Write, &[name, file]) => parse_write(name, file),
         (Verb::Load, &[name, config, bytes, ref options @ ..]) => {
             parse_load(name, config, bytes, options)

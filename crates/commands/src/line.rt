@@ -18,7 +18,16 @@ pub fn command_part(line: &[u8]) -> &[u8]
 pub fn words<'a>(heap: Global, text: &'a [u8]) -> Result<Vec<&'a [u8]>, AllocError>
     ensures { IfOk result (λ v. map (λ w. w.now) v.items ≡ words_of text.now) }
 {
-    text.split(|b| matches!(b, b' ' | b'\t'))
-        .filter(|word| !word.is_empty())
-        .collect(heap)
+    let mut found = Vec::new(heap);
+    let mut rest = text;
+    while let Some(start) = rest.iter().position(|b| !matches!(b, b' ' | b'\t')) {
+        let word = &rest[start..];
+        let end = word
+            .iter()
+            .position(|b| matches!(b, b' ' | b'\t'))
+            .unwrap_or(word.len());
+        found.push(&word[..end])?;
+        rest = &word[end..];
+    }
+    Ok(found)
 }

@@ -13,7 +13,8 @@ fn is_decimal(word: &[u8]) -> bool
     !word.is_empty() && word.iter().all(|b| b.is_ascii_digit())
 }
 
-// A decimal number of at most 64 bits.
+// A decimal number of at most 64 bits. Inlined, as an error is large to hand on.
+#[inline(always)]
 pub fn number<'a>(word: &'a [u8]) -> Result<usize, LineError<'a>>
     ensures { OkIff result (Decimal word.now × (decimal_value word.now < 2 ^ 64)) (decimal_value word.now) }
 {
@@ -21,7 +22,10 @@ pub fn number<'a>(word: &'a [u8]) -> Result<usize, LineError<'a>>
         return Err(LineError::NotNumber(word));
     }
     let digits = std::str::from_utf8(word).unwrap();
-    digits.parse().map_err(|_| LineError::NumberTooLarge(word))
+    let Ok(value) = digits.parse() else {
+        return Err(LineError::NumberTooLarge(word));
+    };
+    Ok(value)
 }
 
 // A decimal number of at most 16 bits.
@@ -42,7 +46,8 @@ fn is_name(word: &[u8]) -> bool
             .all(|b| b.is_ascii_alphanumeric() || matches!(b, b'-' | b'_'))
 }
 
-// The name of a set.
+// The name of a set. Inlined, as an error is large to hand on.
+#[inline(always)]
 pub fn name<'a>(word: &'a [u8]) -> Result<&'a str, LineError<'a>>
     ensures { MatchResult result (λ s. (s.now ≡ word.now) × Name word.now) (λ _. Name word.now → ⊥) }
 {

@@ -220,10 +220,30 @@ impl<'a> TryFrom<&'a [u8]> for Verb {
 
     // The verb that a word names.
     fn try_from(word: &'a [u8]) -> Result<Verb, LineError<'a>> {
-        Verb::ALL
-            .into_iter()
-            .find(|verb| verb.word().as_bytes() == word)
-            .ok_or(LineError::UnknownCommand(word))
+        match word {
+            b"draft" => Ok(Verb::Draft),
+            b"mark" => Ok(Verb::Mark),
+            b"clear" => Ok(Verb::Clear),
+            b"both" => Ok(Verb::Layer(Layer::Both)),
+            b"either" => Ok(Verb::Layer(Layer::Either)),
+            b"without" => Ok(Verb::Layer(Layer::Without)),
+            b"oneof" => Ok(Verb::Layer(Layer::OneOf)),
+            b"has" => Ok(Verb::Has),
+            b"next" => Ok(Verb::Next),
+            b"runs" => Ok(Verb::Runs),
+            b"count" => Ok(Verb::Count),
+            b"pack" => Ok(Verb::Pack),
+            b"words" => Ok(Verb::Words),
+            b"image" => Ok(Verb::Image),
+            b"write" => Ok(Verb::Write),
+            b"load" => Ok(Verb::Load),
+            b"read" => Ok(Verb::Read),
+            b"emphasis" => Ok(Verb::Check(Rule::Emphasis)),
+            b"languages" => Ok(Verb::Check(Rule::Languages)),
+            b"notes" => Ok(Verb::Check(Rule::Notes)),
+            b"pages" => Ok(Verb::Check(Rule::Pages)),
+            _ => Err(LineError::UnknownCommand(word)),
+        }
     }
 }
 

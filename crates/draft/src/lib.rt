@@ -51,6 +51,7 @@ impl<W: AsSlice<u64>> LevelMasks for DraftOver<W> {
 
     ghost lawful = { λ s. draft_lawful s.config (W.AsSlice.items s.words) };
 
+    #[inline(always)]
     fn config(&self) -> Option<Config> {
         let there = self.words.as_slice().len();
         (words_needed(self.config) <= there).then_some(self.config)
@@ -68,6 +69,7 @@ impl<W: AsSlice<u64>> LevelMasks for DraftOver<W> {
         every_level1(self.config(), i)
     }
 
+    #[inline(always)]
     fn data_mask(&self, i: usize, j: usize) -> Mask {
         let Some(c) = self.config() else {
             return Mask::zero();

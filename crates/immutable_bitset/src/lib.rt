@@ -29,7 +29,7 @@ pub struct Blank<'a> {
     ghost sound: { ForSome numbers (λ m. Sound m words.now) },
 }
 
-// A finished blank: it is read, and filled no more. Void where nothing was filled in.
+// A finished blank: it is read, and filled no more. Void where nothing was filled in. Its type carries the same rules, so lookups test nothing.
 #[derive(Drop)]
 pub struct ImmutableBitset<'a> {
     blank: Blank<'a>,

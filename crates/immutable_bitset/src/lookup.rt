@@ -1,11 +1,12 @@
-// Lookups in packed words, by rank.
-ghost use Rattle.std.specs.Prelude.{◌≡◌, ℕ, ◌^◌, ◌<◌, true, take, slice_index, if◌then◌else◌, Some, None};
+// Lookups in packed words, by rank. What they require is what a set's type carries.
+ghost use Rattle.std.specs.Prelude.{◌≡◌, ℕ, ◌+◌, ◌/◌, ◌^◌, ◌<◌, ◌≤◌, true, length, take, slice_index, IfSome, if◌then◌else◌, Some, None};
 ghost use Rattle.bit_block.specs.Raised.{raised};
 ghost use Rattle.bit_block.specs.Ranges.{count};
 ghost use Rattle.bit_block.specs.Widths.{bits};
 ghost use Rattle.packing.specs.Packed.{before};
-ghost use Rattle.packing.specs.Meaning.{Sound, len_of, word_place, held_at, block_place, up_at};
+ghost use Rattle.packing.specs.Meaning.{Sound, kdof, len_of, word_place, held_at, block_place, bit_from, up_at};
 
+use bit_block::config::Width;
 use bit_block::mask::{Mask, low_ones};
 use packing::Numbers;
 use packing::start_words::start_in;
@@ -27,6 +28,25 @@ impl<'a> Filled<'a> {
         ensures numbers { result.numbers.now ≡ numbers.now }
     {
         Filled { words, numbers }
+    }
+
+    // The mask whose words stand from place `at` on.
+    fn read_mask(&self, at: usize, width: Width) -> Mask
+        requires { at + bits width / 64 ≤ length self.now.words.now }
+        ensures { (t : ℕ) → raised result t ≡ bit_from self.now.words.now at (bits width / 64) t }
+    {
+        let words = self.words;
+        match width {
+            Width::W64 => Mask {
+                words: [words[at], 0, 0, 0],
+            },
+            Width::W128 => Mask {
+                words: [words[at], words[at + 1], 0, 0],
+            },
+            Width::W256 => Mask {
+                words: [words[at], words[at + 1], words[at + 2], words[at + 3]],
+            },
+        }
     }
 
     // The rank of row i: its word's start and the raised bits below it.
@@ -60,7 +80,8 @@ impl<'a> Filled<'a> {
 
     // The place of the words of block (i, j), where it is stored.
     fn place_of(&self, i: usize, j: usize) -> Option<usize>
-        ensures { result ≡ (if held_at self.now.numbers.now self.now.words.now i j then Some (block_place self.now.numbers.now self.now.words.now i j) else None) }
+        ensures fits { IfSome result (λ at. at + kdof self.now.numbers.now ≤ length self.now.words.now) }
+        ensures is { result ≡ (if held_at self.now.numbers.now self.now.words.now i j then Some (block_place self.now.numbers.now self.now.words.now i j) else None) }
     {
         let numbers = self.numbers;
         if !numbers.level0.get_bit(i) {
@@ -86,7 +107,7 @@ impl<'a> Filled<'a> {
             return Mask::zero();
         }
         let at = self.word_place(i, 0);
-        Mask::from_words(self.words, at, self.numbers.config.level1)
+        self.read_mask(at, self.numbers.config.level1)
     }
 
     // Block (i, j).
@@ -94,7 +115,7 @@ impl<'a> Filled<'a> {
         ensures { (t : ℕ) → raised result t ≡ up_at self.now.numbers.now self.now.words.now i j t }
     {
         match self.place_of(i, j) {
-            Some(at) => Mask::from_words(self.words, at, self.numbers.config.data),
+            Some(at) => self.read_mask(at, self.numbers.config.data),
             None => Mask::zero(),
         }
     }

@@ -15,6 +15,8 @@ pub trait BitSetOp {
 
     ghost TRUSTED_HIERARCHY: { Bool };
 
+    ghost laws: { OperationLaws hierarchy_bit data_bit TRUSTED_HIERARCHY };
+
     // Whether a layer over two trusted sources is trusted.
     const TRUSTED_HIERARCHY: bool;
 
@@ -25,8 +27,6 @@ pub trait BitSetOp {
     // The operation on data blocks.
     fn data_op(left: Mask, right: Mask) -> Mask
         ensures { (t : ℕ) → raised result t ≡ data_bit (raised left t) (raised right t) };
-
-    ghost laws: { OperationLaws hierarchy_bit data_bit TRUSTED_HIERARCHY };
 }
 
 // What both raise.

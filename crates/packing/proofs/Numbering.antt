@@ -25,10 +25,10 @@ unfolding kdof
 kd_of s m N = ap (λ (o : Option Config). wd o / 64) N.conf
 
 module _ (s : Source) (c : Config) (is : Some c ≡ s.conf) (f : Found) (M : Measured (held s) f) where
-  k1_is : bits c.level1 / 64 ≡ k1 s
+  pub k1_is : bits c.level1 / 64 ≡ k1 s
   k1_is = ap (λ (o : Option Config). w1 o / 64) is
 
-  kd_is : bits c.«data» / 64 ≡ kd s
+  pub kd_is : bits c.«data» / 64 ≡ kd s
   kd_is = ap (λ (o : Option Config). wd o / 64) is
 
   -- the words that are needed

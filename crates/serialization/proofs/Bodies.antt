@@ -53,11 +53,11 @@ pub mask_fits : (q k n : ℕ) → q < n / k → q * k + k ≤ n
 mask_fits q k n h = omega (arith, add-mul q 1 k, mul-le-mul_right {m = q + 1} {n = n / k} k (omega arith), div-mul-le_self n k)
 
 -- the lesser is the first, or the second
-least_first : (a b : ℕ) → a < b → least a b ≡ a
-least_first a b h = grind (arith, nat_tests)
+pub least_above : (c j : ℕ) → c ≤ j → least c j ≡ c
+least_above c j h = grind (arith, nat_tests)
 
-least_second : (a b : ℕ) → b ≤ a → least a b ≡ b
-least_second a b h = grind (arith, nat_tests)
+pub least_below : (c j : ℕ) → j ≤ c → least c j ≡ j
+least_below c j h = grind (arith, nat_tests)
 
 -- so many starts, and then the next four
 pub least_more : (c i : ℕ) → least c (4 * i) + least (c - 4 * i) 4 ≡ least c (4 * (i + 1))
@@ -109,8 +109,8 @@ four-front r xs zs = refl
 
 four_least : (r : ℕ) (xs : List ℕ) → four_of (numbers 2 (least r 4) xs) ≡ four_of (numbers 2 r xs)
 four_least r xs =
-    ⊎_elim (λ (l : r < 4). ap (λ (n : ℕ). four_of (numbers 2 n xs)) (least_first r 4 l))
-    (λ (l : 4 ≤ r). ap (λ (n : ℕ). four_of (numbers 2 n xs)) (least_second r 4 l) ∙ sym (four-front r xs (numbers 2 (r - 4) (drop 8 xs)))
+    ⊎_elim (λ (l : r < 4). ap (λ (n : ℕ). four_of (numbers 2 n xs)) (least_above r 4 (omega arith)))
+    (λ (l : 4 ≤ r). ap (λ (n : ℕ). four_of (numbers 2 n xs)) (least_below r 4 l) ∙ sym (four-front r xs (numbers 2 (r - 4) (drop 8 xs)))
     ∙ ap four_of (sym (numbers_add 2 4 (r - 4) xs)) ∙ (let e : 4 + (r - 4) ≡ r = omega arith in ap (λ (n : ℕ). four_of (numbers 2 n xs)) e))
     (cases_lt r 4)
 
@@ -126,7 +126,7 @@ start_word_is i c s t p =
     four_least (c - a) t.front.bytes ∙ ap (λ (n : ℕ). four_of (numbers 2 n t.front.bytes)) z ∙ ap four_of (numbers_none 2 t.front.bytes)
     ∙ sym (ap four_of (drop_all a (numbers 2 c xs) (omega (arith, length-numbers 2 c xs)))))
     (λ (l : a ≤ c).
-    let z : size_of (many (least c a) 2 ∷ []) ≡ a * 2 = size_of-one (many (least c a) 2) ∙ ap (λ (n : ℕ). n * 2) (least_second c a l) in
+    let z : size_of (many (least c a) 2 ∷ []) ≡ a * 2 = size_of-one (many (least c a) 2) ∙ ap (λ (n : ℕ). n * 2) (least_below c a l) in
     let e : t.front.bytes ≡ drop (a * 2) xs = ap (λ (x : Stream). x.front.bytes) p.1 ∙ ap (λ (n : ℕ). drop n xs) z in
     let n : c ≡ a + (c - a) = omega arith in
     four_least (c - a) t.front.bytes ∙ ap (λ (ys : List ℕ). four_of (numbers 2 (c - a) ys)) e

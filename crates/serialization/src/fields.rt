@@ -1,5 +1,5 @@
 // Reading the fields of an image, each by one request.
-ghost use Rattle.std.specs.Prelude.{◌≡◌, [], ◌∷◌, length, take, map};
+ghost use Rattle.std.specs.Prelude.{◌≡◌, [], ◌∷◌, length, take, map, slice_index};
 ghost use Rattle.reader.specs.Fields.{Took, Gives, faulted, one, many};
 ghost use Rattle.reader.specs.LittleEndian.{value, numbers};
 ghost use Rattle.reader.specs.Streams.{after};
@@ -32,6 +32,30 @@ pub fn read_number<R: Reader, const N: usize, T: LittleEndian<N>>(
     let mut bytes = [0; N];
     reader.read_exact(&mut bytes)?;
     Ok(T::from_le_bytes(&bytes))
+}
+
+// A number of one byte.
+pub fn read_u8<R: Reader>(reader: &mut R) -> Result<u8, ReadFault>
+    ensures took { Took (one 1 ∷ []) (R.Reader.means reader.old) (faulted result) (R.Reader.means reader.new) }
+    ensures gives { Gives result (λ x. x ≡ slice_index (R.Reader.means reader.old).front.bytes 0) }
+{
+    read_number(reader) // a byte is its own number
+}
+
+// A number of two bytes.
+pub fn read_u16<R: Reader>(reader: &mut R) -> Result<u16, ReadFault>
+    ensures took { Took (one 2 ∷ []) (R.Reader.means reader.old) (faulted result) (R.Reader.means reader.new) }
+    ensures gives { Gives result (λ x. x ≡ value (take 2 (R.Reader.means reader.old).front.bytes)) }
+{
+    read_number(reader) // two bytes, the least significant first
+}
+
+// A number of four bytes.
+pub fn read_u32<R: Reader>(reader: &mut R) -> Result<u32, ReadFault>
+    ensures took { Took (one 4 ∷ []) (R.Reader.means reader.old) (faulted result) (R.Reader.means reader.new) }
+    ensures gives { Gives result (λ x. x ≡ value (take 4 (R.Reader.means reader.old).front.bytes)) }
+{
+    read_number(reader) // four bytes, the least significant first
 }
 
 // As many numbers as there is room for, each a field of N bytes.
@@ -105,12 +129,12 @@ pub fn read_header<R: Reader>(reader: &mut R) -> Result<Header, AccessError>
     ensures rows { Gives result (λ h. h.n ≡ n_in (R.Reader.means reader.old).front.bytes) }
     ensures blocks { Gives result (λ h. h.d ≡ d_in (R.Reader.means reader.old).front.bytes) }
 {
-    let version: u16 = read_number(reader)?;
+    let version = read_u16(reader)?;
     if version != FORMAT_VERSION {
         return Err(AccessError::FormatMismatch(version));
     }
-    let n: u16 = read_number(reader)?;
-    let d: u32 = read_number(reader)?;
+    let n = read_u16(reader)?;
+    let d = read_u32(reader)?;
     Ok(Header { n, d })
 }
 

@@ -12,14 +12,14 @@ use crate::sets::{Kind, Positions, Sets};
 use bit_block::config::Config;
 use bitset_interface::LevelMasks;
 use bitset_interface::walk::{contains, next_from};
-use certificate::conditions::{Condition, comparable};
+use certificate::conditions::{Condition, comparable, faults_of};
 use certificate::runs::{Run, count_held, runs_of};
 use commands::command::{Command, Pair, Span};
 use commands::error::LineError;
 use commands::options::LoadOptions;
 use commands::verb::{Layer, Rule};
 use draft::{Draft, DraftView, words_needed};
-use ops::{Both, Either, OneOf, Without};
+use ops::{both_of, either_of, first_without, just_one_of};
 use std::alloc::{AllocError, Global};
 use std::rt::Files;
 use std::{fmt, fs, io};
@@ -156,10 +156,10 @@ fn laid<'n, 'v>(
     b: DraftView<'v>,
 ) -> Result<Positions, Declined<'n>> {
     match layer {
-        Layer::Both => Positions::of(heap, &Both::new(a, b)),
-        Layer::Either => Positions::of(heap, &Either::new(a, b)),
-        Layer::Without => Positions::of(heap, &Without::new(a, b)),
-        Layer::OneOf => Positions::of(heap, &OneOf::new(a, b)),
+        Layer::Both => Positions::of(heap, &both_of(a, b)),
+        Layer::Either => Positions::of(heap, &either_of(a, b)),
+        Layer::Without => Positions::of(heap, &first_without(a, b)),
+        Layer::OneOf => Positions::of(heap, &just_one_of(a, b)),
     }
 }
 
@@ -219,7 +219,7 @@ fn condition(rule: Rule) -> Condition
     }
 }
 
-// The runs at which two sets break a condition. The arms have two types.
+// The runs at which two sets break a condition.
 fn faults<A: LevelMasks, B: LevelMasks>(
     heap: Global,
     condition: Condition,
@@ -228,10 +228,7 @@ fn faults<A: LevelMasks, B: LevelMasks>(
 ) -> Result<Vec<Run>, AllocError>
     ensures { IfOk result (λ v. AllRuns (fault condition (A.LevelMasks.means a.now) (B.LevelMasks.means b.now)) 0 v.items) }
 {
-    match condition {
-        Condition::Inside => runs(heap, &Without::new(a, b)),
-        Condition::Same => runs(heap, &OneOf::new(a, b)),
-    }
+    faults_of(condition, a, b).collect(heap)
 }
 
 // Checks a rule on two sets.

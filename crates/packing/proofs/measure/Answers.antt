@@ -21,13 +21,13 @@ overflow_add-d g c =
       arith,
       c.count_ones.ensures,
       count_le (raised c.row_of-row.result) 256,
-      few (g.S.LevelMasks.means c.args.s.now) (g.met.S.LevelMasks.lawful c.args.s.now) _ c.loop-i.invariant.mask _ _ _ _ c.loop-i.invariant.found,
+      few (g.S.LevelMasks.means c.args.s.now) (g.S.LevelMasks.lawful c.args.s.now) _ c.loop-i.invariant.mask _ _ _ _ c.loop-i.invariant.found,
     )
 
 pub loop-i-preserved-then-not-is_zero : goal.loop-i-preserved-then-not-is_zero
 loop-i-preserved-then-not-is_zero g c =
     let s = g.S.LevelMasks.means c.args.s.now in
-    let law = g.met.S.LevelMasks.lawful c.args.s.now in
+    let law = g.S.LevelMasks.lawful c.args.s.now in
     let step = c.in-Some.ensures.steps in
     let is = c.loop-i.invariant.mask in
     let r = c.loop-i.invariant.found in
@@ -42,7 +42,7 @@ loop-i-preserved-then-not-is_zero g c =
 pub loop-i-preserved : goal.loop-i-preserved
 loop-i-preserved g c =
     let s = g.S.LevelMasks.means c.args.s.now in
-    let law = g.met.S.LevelMasks.lawful c.args.s.now in
+    let law = g.S.LevelMasks.lawful c.args.s.now in
     let step = c.in-Some.ensures.steps in
     let is = c.loop-i.invariant.mask in
     let r = c.loop-i.invariant.found in
@@ -59,4 +59,4 @@ overflow_cast-result g c = omega (arith, c.count_ones-2.ensures, count_le (raise
 
 pub returns : goal.returns
 returns g c =
-    rowed_all (g.S.LevelMasks.means c.args.s.now) (g.met.S.LevelMasks.lawful c.args.s.now) _ c.loop-i.invariant.mask _ _ _ _ c.loop-i.invariant.found c.in-None.ensures.steps.least c.count_ones-2.result c.count_ones-2.ensures
+    rowed_all (g.S.LevelMasks.means c.args.s.now) (g.S.LevelMasks.lawful c.args.s.now) _ c.loop-i.invariant.mask _ _ _ _ c.loop-i.invariant.found c.in-None.ensures.steps.least c.count_ones-2.result c.count_ones-2.ensures

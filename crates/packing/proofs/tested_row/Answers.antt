@@ -12,7 +12,7 @@ under s law i f is t e = held_under s law i t (sym (is t) ∙ e)
 pub loop-j-preserved-then-not-is_zero : goal.loop-j-preserved-then-not-is_zero
 loop-j-preserved-then-not-is_zero g c =
     let s = g.S.LevelMasks.means c.args.s.now in
-    let law = g.met.S.LevelMasks.lawful c.args.s.now in
+    let law = g.S.LevelMasks.lawful c.args.s.now in
     let step = c.in-Some.ensures.steps in
     let is = c.loop-j.invariant.mask in
     let small : c.in-Some.j < 256 = omega (arith, law.below1 c.args.i c.in-Some.j (sym (is c.in-Some.j) ∙ step.least.1), w1_most s.conf) in
@@ -27,7 +27,7 @@ loop-j-preserved-then-not-is_zero g c =
 pub loop-j-preserved : goal.loop-j-preserved
 loop-j-preserved g c =
     let s = g.S.LevelMasks.means c.args.s.now in
-    let law = g.met.S.LevelMasks.lawful c.args.s.now in
+    let law = g.S.LevelMasks.lawful c.args.s.now in
     let step = c.in-Some.ensures.steps in
     let is = c.loop-j.invariant.mask in
     record {
@@ -41,4 +41,4 @@ loop-j-preserved g c =
 pub returns : goal.returns
 returns g c =
     let s = g.S.LevelMasks.means c.args.s.now in
-    upto_all _ (held s c.args.i) (under s (g.met.S.LevelMasks.lawful c.args.s.now) c.args.i _ c.loop-j.invariant.mask) _ _ c.in-None.ensures.steps.least c.loop-j.invariant.tested
+    upto_all _ (held s c.args.i) (under s (g.S.LevelMasks.lawful c.args.s.now) c.args.i _ c.loop-j.invariant.mask) _ _ c.in-None.ensures.steps.least c.loop-j.invariant.tested

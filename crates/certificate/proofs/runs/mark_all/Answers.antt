@@ -15,7 +15,7 @@ first g c = rw c.loop-run.invariant.2 at c.in-Some.ensures.steps.first
 -- and a good range of the draft
 good : (g : _) (c : In-Some g) → good_range (fitting c.loop-run.draft.config (length c.loop-run.draft.words.now)) c.in-Some.run'.from c.in-Some.run'.to ≡ true
 good g c =
-    run_good (g.S.LevelMasks.means c.args.s.now) (g.met.S.LevelMasks.lawful c.args.s.now) c.loop-run.run-iterator.at c.in-Some.run' (first g c)
+    run_good (g.S.LevelMasks.means c.args.s.now) (g.S.LevelMasks.lawful c.args.s.now) c.loop-run.run-iterator.at c.in-Some.run' (first g c)
     c.loop-run.draft.config c.args.draft.now.config c.loop-run.draft.words.now c.args.draft.now.words.now c.loop-run.invariant.3 c.loop-run.invariant.5.long
     (omega (arith, c.if-capacity_of.false, c.capacity_of.ensures, c.capacity_of-2.ensures))
 

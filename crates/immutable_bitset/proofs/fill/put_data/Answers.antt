@@ -20,17 +20,17 @@ loop-i-init g c = rw c.into_iter-i-iterator.ensures.into_iter_gives (rw c.ones-i
 
 pub offset_bounds-found-i : goal.offset_bounds-found-i
 offset_bounds-found-i g c =
-    omega (arith, row_below (g.S.LevelMasks.means c.args.s.now) (g.met.S.LevelMasks.lawful c.args.s.now) c.args.k _ c.requires.measured.top _ c.in-Some.i (least_in _ c.args.found.now.level0 c.loop-i.i-iterator.at (Some c.in-Some.i) c.loop-i.invariant.mask c.in-Some.ensures.steps.least))
+    omega (arith, row_below (g.S.LevelMasks.means c.args.s.now) (g.S.LevelMasks.lawful c.args.s.now) c.args.k _ c.requires.measured.top _ c.in-Some.i (least_in _ c.args.found.now.level0 c.loop-i.i-iterator.at (Some c.in-Some.i) c.loop-i.invariant.mask c.in-Some.ensures.steps.least))
 
 pub bounds-found-i : goal.bounds-found-i
 bounds-found-i g c =
-    row_below (g.S.LevelMasks.means c.args.s.now) (g.met.S.LevelMasks.lawful c.args.s.now) c.args.k _ c.requires.measured.top _ c.in-Some.i (least_in _ c.args.found.now.level0 c.loop-i.i-iterator.at (Some c.in-Some.i) c.loop-i.invariant.mask c.in-Some.ensures.steps.least)
+    row_below (g.S.LevelMasks.means c.args.s.now) (g.S.LevelMasks.lawful c.args.s.now) c.args.k _ c.requires.measured.top _ c.in-Some.i (least_in _ c.args.found.now.level0 c.loop-i.i-iterator.at (Some c.in-Some.i) c.loop-i.invariant.mask c.in-Some.ensures.steps.least)
 
 pub put_masks-next-requires-clause-fits : goal.put_masks-next-requires-clause-fits
 unfolding blocks
 put_masks-next-requires-clause-fits g c =
     let s = g.S.LevelMasks.means c.args.s.now in
-    let law = g.met.S.LevelMasks.lawful c.args.s.now in
+    let law = g.S.LevelMasks.lawful c.args.s.now in
     let i : ℕ = c.in-Some.i in
     let l = least_in _ c.args.found.now.level0 c.loop-i.i-iterator.at (Some c.in-Some.i) c.loop-i.invariant.mask c.in-Some.ensures.steps.least in
     let small : i < 256 = row_below s law c.args.k _ c.requires.measured.top _ i l in
@@ -46,7 +46,7 @@ put_masks-next-requires-clause-fits g c =
 pub loop-i-preserved : goal.loop-i-preserved
 loop-i-preserved g c =
     let s = g.S.LevelMasks.means c.args.s.now in
-    let law = g.met.S.LevelMasks.lawful c.args.s.now in
+    let law = g.S.LevelMasks.lawful c.args.s.now in
     let step = c.in-Some.ensures.steps in
     let i : ℕ = c.in-Some.i in
     let l = least_in _ c.args.found.now.level0 c.loop-i.i-iterator.at (Some c.in-Some.i) c.loop-i.invariant.mask step.least in
@@ -61,6 +61,6 @@ loop-i-preserved g c =
 
 pub returns : goal.returns
 returns g c =
-    data_all (g.S.LevelMasks.means c.args.s.now) (g.met.S.LevelMasks.lawful c.args.s.now) c.args.k (raised c.args.found.now.level0) c.requires.measured.top
+    data_all (g.S.LevelMasks.means c.args.s.now) (g.S.LevelMasks.lawful c.args.s.now) c.args.k (raised c.args.found.now.level0) c.requires.measured.top
     c.loop-i.i-iterator.at (least_in _ _ c.loop-i.i-iterator.at None c.loop-i.invariant.mask c.in-None.ensures.steps.least)
     c.loop-i.invariant.near c.loop-i.invariant.wrote

@@ -14,7 +14,7 @@ two-read s t u p q = took_then (one 2 ∷ []) (one 2 ∷ []) None s t u p q
 pub returns-in_err-version : goal.returns-in_err-version
 returns-in_err-version g c =
     let s : Stream = g.R.Reader.means c.args.reader.now in
-    let t : Stream = g.R.Reader.means c.read_number.new.reader in
+    let t : Stream = g.R.Reader.means c.read_u16.new.reader in
     let f : ReadFault = c.in_err-version.field-0.0 in
     let k = c.in_err-version.ensures.took in
     let h = header_failed s t f (took_stop (one 2 ∷ []) (one 2 ∷ one 4 ∷ []) f s t k) (inl (omega (arith, k.0, size_of-one (one 2)))) in
@@ -23,14 +23,14 @@ returns-in_err-version g c =
 pub returns-then-version-ne-FORMAT_VERSION : goal.returns-then-version-ne-FORMAT_VERSION
 returns-then-version-ne-FORMAT_VERSION g c =
     let s : Stream = g.R.Reader.means c.args.reader.now in
-    let h = header_mismatch s (g.R.Reader.means c.read_number.new.reader) c.in_ok-version.version c.in_ok-version.ensures.took c.in_ok-version.ensures.gives c.if-version-ne-FORMAT_VERSION.true in
+    let h = header_mismatch s (g.R.Reader.means c.read_u16.new.reader) c.in_ok-version.version c.in_ok-version.ensures.took c.in_ok-version.ensures.gives c.if-version-ne-FORMAT_VERSION.true in
     record { refused = h.0; left = h.1; rows = tt; blocks = tt }
 
 pub returns-in_err-n : goal.returns-in_err-n
 returns-in_err-n g c =
     let s : Stream = g.R.Reader.means c.args.reader.now in
-    let t : Stream = g.R.Reader.means c.read_number.new.reader in
-    let u : Stream = g.R.Reader.means c.read_number-2.new.reader in
+    let t : Stream = g.R.Reader.means c.read_u16.new.reader in
+    let u : Stream = g.R.Reader.means c.read_u16-2.new.reader in
     let f : ReadFault = c.in_err-n.field-0.0 in
     let k = took_then (one 2 ∷ []) (one 2 ∷ []) (Some f) s t u c.in_ok-version.ensures.took c.in_err-n.ensures.took in
     let h = header_failed s u f (took_stop (one 2 ∷ one 2 ∷ []) (one 4 ∷ []) f s u k) (inr (sym c.in_ok-version.ensures.gives ∙ c.if-version-ne-FORMAT_VERSION.false)) in
@@ -39,9 +39,9 @@ returns-in_err-n g c =
 pub returns-in_err-d : goal.returns-in_err-d
 returns-in_err-d g c =
     let s : Stream = g.R.Reader.means c.args.reader.now in
-    let t : Stream = g.R.Reader.means c.read_number.new.reader in
-    let u : Stream = g.R.Reader.means c.read_number-2.new.reader in
-    let v : Stream = g.R.Reader.means c.read_number-3.new.reader in
+    let t : Stream = g.R.Reader.means c.read_u16.new.reader in
+    let u : Stream = g.R.Reader.means c.read_u16-2.new.reader in
+    let v : Stream = g.R.Reader.means c.read_u32.new.reader in
     let f : ReadFault = c.in_err-d.field-0.0 in
     let k = took_then (one 2 ∷ one 2 ∷ []) (one 4 ∷ []) (Some f) s u v (two-read s t u c.in_ok-version.ensures.took c.in_ok-n.ensures.took) c.in_err-d.ensures.took in
     let h = header_failed s v f k (inr (sym c.in_ok-version.ensures.gives ∙ c.if-version-ne-FORMAT_VERSION.false)) in
@@ -50,9 +50,9 @@ returns-in_err-d g c =
 pub returns : goal.returns
 returns g c =
     let s : Stream = g.R.Reader.means c.args.reader.now in
-    let t : Stream = g.R.Reader.means c.read_number.new.reader in
-    let u : Stream = g.R.Reader.means c.read_number-2.new.reader in
-    let v : Stream = g.R.Reader.means c.read_number-3.new.reader in
+    let t : Stream = g.R.Reader.means c.read_u16.new.reader in
+    let u : Stream = g.R.Reader.means c.read_u16-2.new.reader in
+    let v : Stream = g.R.Reader.means c.read_u32.new.reader in
     let two = two-read s t u c.in_ok-version.ensures.took c.in_ok-n.ensures.took in
     let k = took_then (one 2 ∷ one 2 ∷ []) (one 4 ∷ []) None s u v two c.in_ok-d.ensures.took in
     let h = header_read s v k (sym c.in_ok-version.ensures.gives ∙ c.if-version-ne-FORMAT_VERSION.false) in

@@ -1,10 +1,7 @@
-use mathlib.Core.Path.{fun_ext}
+use Rattle.stylebook.proofs.Listed.{faults_collected}
 use Rattle.stylebook.proofs.answer.faults.Goals as goal
 
-pub returns-in-Inside : goal.returns-in-Inside
-returns-in-Inside g c =
-    rw c.in-Inside.is (rw (c.new.ensures.first, c.new.ensures.second, fun_ext c.new.ensures.held) at c.runs.ensures)
-
-pub returns-in-Same : goal.returns-in-Same
-returns-in-Same g c =
-    rw c.in-Same.is (rw (c.new-in-Same.ensures.first, c.new-in-Same.ensures.second, fun_ext c.new-in-Same.ensures.held) at c.runs-in-Same.ensures)
+pub returns : goal.returns
+returns g c =
+    rw (c.faults_of.ensures.condition, c.faults_of.ensures.first, c.faults_of.ensures.second, c.faults_of.ensures.at)
+    at (faults_collected (λ s. g.A.LevelMasks.means s.now) (λ s. g.B.LevelMasks.means s.now) c.collect.result c.faults_of.result c.collect.ensures.ran)

@@ -1,10 +1,11 @@
-use Rattle.std.proofs.Common.{◌≡◌, ◌≢◌, rules, tests}
-use Rattle.std.proofs.lemmas.Iterator.{first_from_find}
-use Rattle.commands.specs.Verbs.{verb_word}
-use Rattle.commands.proofs.Verbs.{named_verb, all_verbs}
+use Rattle.std.proofs.Common.{arith}
+use Rattle.commands.specs.declared.verb.Layer.TheVariants.{Both}
+use Rattle.commands.specs.declared.verb.Rule.TheVariants.{Emphasis}
+use Rattle.commands.specs.declared.verb.Verb.TheVariants as verb
 use Rattle.commands.proofs.verb.VerbTryFromRefSliceU8.try_from.Goals as goal
 
-pub returns : goal.returns
-returns c =
-    rw c.ok_or.ensures.value (named_verb c.args.word.now c.find.result _ _ (λ v found. found.0)
-    (first_from_find _ _ c.find.result (λ v. c.args.word.now ≡ verb_word v) (λ v. c.args.word.now ≢ verb_word v) c.find.ensures.ran (all_verbs _ c.into_iter.ensures.into_iter_gives.0) (λ v q k. search (rules, tests)) (λ v q k. search (rules, tests))))
+-- a word that is no arm's is no verb's; the last line stands for each other verb
+pub returns-in_default : goal.returns-in_default
+returns-in_default c (verb.Layer Both) is = grind arith
+returns-in_default c (verb.Check Emphasis) is = grind arith
+returns-in_default c v is = grind arith

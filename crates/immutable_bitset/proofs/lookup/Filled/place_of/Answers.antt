@@ -8,12 +8,12 @@ use Rattle.immutable_bitset.proofs.lookup.Filled.place_of.Goals as goal
 
 pub returns-then-not-get_bit : goal.returns-then-not-get_bit
 returns-then-not-get_bit c =
-    none c.args.self.now.numbers.now c.args.self.now.words.now c.args.i c.args.j (not_row _ _ _ _ (sym c.if-not-get_bit.ensures))
+    record { fits = tt; is = none c.args.self.now.numbers.now c.args.self.now.words.now c.args.i c.args.j (not_row _ _ _ _ (sym c.if-not-get_bit.ensures)) }
 
 pub returns-then-j-bits : goal.returns-then-j-bits
 returns-then-j-bits c =
     let m = c.args.self.now.numbers.now in
-    none m c.args.self.now.words.now c.args.i c.args.j (not_wide m _ _ _ (omega (arith, c.if-j-bits.true, c.bits.ensures, (k1-whole m).0)))
+    record { fits = tt; is = none m c.args.self.now.words.now c.args.i c.args.j (not_wide m _ _ _ (omega (arith, c.if-j-bits.true, c.bits.ensures, (k1-whole m).0))) }
 
 -- the word is there
 there : (c : goal.After-word_place-m) → c.word_place-m.result < length c.args.self.now.words.now
@@ -29,8 +29,11 @@ pub returns-then-word-j-ne1 : goal.returns-then-word-j-ne1
 returns-then-word-j-ne1 c =
     let m = c.args.self.now.numbers.now in
     let ws = c.args.self.now.words.now in
-    none m ws c.args.i c.args.j (not_bit m ws c.args.i c.args.j (
-    ap (λ (x : ℕ). bit_of (get_or ws x 0) (c.args.j % 64)) (sym c.word_place-m.ensures.is) ∙ bit_no (get_or ws c.word_place-m.result 0) (c.args.j % 64) c.if-word-j-ne1.true))
+    record {
+      fits = tt;
+      is = none m ws c.args.i c.args.j (not_bit m ws c.args.i c.args.j (
+          ap (λ (x : ℕ). bit_of (get_or ws x 0) (c.args.j % 64)) (sym c.word_place-m.ensures.is) ∙ bit_no (get_or ws c.word_place-m.result 0) (c.args.j % 64) c.if-word-j-ne1.true));
+    }
 
 pub overflow_add-rank : goal.overflow_add-rank
 overflow_add-rank c = omega (arith, c.start_at.ensures.small, c.low_ones.ensures, count_le (bit_of (get_or c.args.self.now.words.now c.word_place-m.result 0)) (c.args.j % 64))
@@ -52,6 +55,9 @@ overflow_add-result c = omega (arith, room c)
 pub returns : goal.returns
 returns c =
     let m = c.args.self.now.numbers.now in
-    answer m c.args.self.now.words.now c.args.self.now.sound c.args.i (sym c.if-not-get_bit.ensures) c.args.j (omega (arith, c.if-j-bits.false, c.bits.ensures, (k1-whole m).0))
-    c.word_place-m.result c.word_place-m.ensures.is c.args.self.now.fits (bit_yes _ (c.args.j % 64) c.if-word-j-ne1.false)
-    _ _ _ _ c.start_at.ensures.is c.low_ones.ensures c.data_words.ensures c.data_start.ensures
+    record {
+      fits = room c;
+      is = answer m c.args.self.now.words.now c.args.self.now.sound c.args.i (sym c.if-not-get_bit.ensures) c.args.j (omega (arith, c.if-j-bits.false, c.bits.ensures, (k1-whole m).0))
+          c.word_place-m.result c.word_place-m.ensures.is c.args.self.now.fits (bit_yes _ (c.args.j % 64) c.if-word-j-ne1.false)
+          _ _ _ _ c.start_at.ensures.is c.low_ones.ensures c.data_words.ensures c.data_start.ensures;
+    }
